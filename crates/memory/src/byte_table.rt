@@ -11,19 +11,14 @@ use crate::Memory;
 use setup::kind::Kind;
 use setup::refusal::Refusal;
 
+pub mod making;
+
 #[derive(Drop)]
 pub struct ByteTable<'a> {
     bytes: &'a mut [u8],
 }
 
-impl<'a> ByteTable<'a> {
-    // The memory whose words lie in the caller's buffer; up to seven bytes at its end belong to no word.
-    pub fn over(bytes: &'a mut [u8]) -> ByteTable<'a>
-        ensures { λ r. ⌜ r .bytes ≡ bytes .entry ⌝ }
-    {
-        ByteTable { bytes }
-    }
-
+impl ByteTable<'_> {
     fn word(&self, line: usize) -> u64
         requires { ⌜ 8 * line + 8 ≤ length (now (now self .bytes)) ⌝ }
         ensures { λ r. ⌜ r ≡ word (now (now (self .entry) .bytes)) line ⌝ }

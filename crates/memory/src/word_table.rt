@@ -10,18 +10,11 @@ use crate::Memory;
 use setup::kind::Kind;
 use setup::refusal::Refusal;
 
+pub mod making;
+
 #[derive(Drop)]
 pub struct WordTable<'a> {
     table: &'a mut [u64],
-}
-
-impl<'a> WordTable<'a> {
-    // The memory whose words lie in the caller's table, all of them and as they stand.
-    pub fn over(table: &'a mut [u64]) -> WordTable<'a>
-        ensures { λ r. ⌜ r .table ≡ table .entry ⌝ }
-    {
-        WordTable { table }
-    }
 }
 
 pub impl Memory for WordTable<'_> as WordTableMemory {

@@ -1,12 +1,12 @@
 // Memory kind 3: a last-level store of sixteen places over any memory. Line n uses place n mod 16.
 // Only a store to a line takes its place; the word that was there goes below.
-ghost use Prim.Native.Nat.{ℕ, _≤_, _<_};
+ghost use Prim.Native.Nat.{ℕ, _≤_};
 ghost use Rattle.memory.specs.Words.{reading, storing, stored};
 ghost use Rattle.setup.specs.Refusals.{numbered};
-ghost use Rattle.store.specs.Overlay.{place-of, overlaid, Placed, displaced, below-after, places-after, held, held-in};
+ghost use Rattle.store.specs.Overlay.{place-of, overlaid, Placed, displaced, below-after, places-after};
 ghost use Rattle.store.specs.declared.place.Place.the-variants.{Free};
 ghost use denote.Ref.{now};
-ghost use lib.ListN.{length, getD, set, replicate};
+ghost use lib.ListN.{length, getD};
 ghost use mathlib.Core.List.{List};
 ghost use mathlib.Core.Path.{_≡_};
 use crate::place::Place;
@@ -14,6 +14,8 @@ use memory::Memory;
 use setup::kind::Kind;
 use setup::refusal::Refusal;
 
+pub mod cleaning;
+pub mod making;
 pub mod place;
 
 // The prover does not know the value of an associated constant of a generic impl, so that it has
@@ -29,50 +31,6 @@ pub struct LastLevelStore<M: Memory> {
 }
 
 impl<M: Memory> LastLevelStore<M> {
-    // A store with all places free, which means what the memory below means.
-    pub fn over(below: M) -> Self
-        ensures meaning { λ r. ⌜ overlaid (M·Memory .words (r .below)) (r .places) ≡ M·Memory .words below ⌝ }
-        ensures below { λ r. ⌜ r .below ≡ below ⌝ }
-        ensures places { λ r. ⌜ r .places ≡ replicate 16 Free ⌝ }
-    {
-        LastLevelStore { below, places: [Place::Free; 16] }
-    }
-
-    // Stores every held word below, frees the places, and answers how many words it stored.
-    pub fn clean(&mut self) -> u32
-        ensures value { λ r. ⌜ r ≡ held-in (length (M·Memory .words (now (self .entry) .below))) (now (self .entry) .places) 16 ⌝ }
-        ensures meaning { λ _. ⌜ overlaid (M·Memory .words (now (self .exit) .below)) (now (self .exit) .places) ≡ overlaid (M·Memory .words (now (self .entry) .below)) (now (self .entry) .places) ⌝ }
-        ensures below { λ _. ⌜ M·Memory .words (now (self .exit) .below) ≡ overlaid (M·Memory .words (now (self .entry) .below)) (now (self .entry) .places) ⌝ }
-        ensures places { λ _. ⌜ now (self .exit) .places ≡ replicate 16 Free ⌝ }
-    {
-        let mut stored = 0u32;
-        for i in 0..16 {
-            stored += self.release(i);
-        }
-        stored
-    }
-
-    // Frees one place, and answers how many words of it, 1 or 0, went below.
-    fn release(&mut self, i: usize) -> u32
-        requires { ⌜ i < 16 ⌝ }
-        ensures value { λ r. ⌜ r ≡ held (length (M·Memory .words (now (self .entry) .below))) (getD (now (self .entry) .places) i Free) ⌝ }
-        ensures meaning { λ _. ⌜ overlaid (M·Memory .words (now (self .exit) .below)) (now (self .exit) .places) ≡ overlaid (M·Memory .words (now (self .entry) .below)) (now (self .entry) .places) ⌝ }
-        ensures count { λ _. ⌜ length (M·Memory .words (now (self .exit) .below)) ≡ length (M·Memory .words (now (self .entry) .below)) ⌝ }
-        ensures places { λ _. ⌜ now (self .exit) .places ≡ set (now (self .entry) .places) i Free ⌝ }
-    {
-        let place = self.places[i];
-        match place {
-            Place::Free => 0,
-            Place::Holds { line, word } => {
-                self.places[i] = Place::Free;
-                match self.below.store(line, word) {
-                    Ok(()) => 1,
-                    Err(_) => 0,
-                }
-            }
-        }
-    }
-
     // Sends the word in a line's place below, unless it is the line's own.
     fn make_room(&mut self, line: usize)
         ensures below { λ _. ⌜ M·Memory .words (now (self .exit) .below) ≡ displaced (M·Memory .words (now (self .entry) .below)) (getD (now (self .entry) .places) (place-of line) Free) line ⌝ }
