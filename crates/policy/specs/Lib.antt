@@ -1,0 +1,3 @@
+pub mod Timing
+pub mod Kinds
+pub mod Laws

@@ -1,0 +1,6 @@
+// Whether a core is critical.
+#[derive(Clone, Copy)]
+pub enum Class {
+    Critical,
+    NonCritical,
+}
