@@ -87,3 +87,9 @@ FewCaps caps = Few (caps .critical) × Few (caps .noncritical)
 
 abbrev pub FewHolds : FourHolds → Type 0
 FewHolds v = (Few (v .critical .critical) × Few (v .critical .noncritical)) × (Few (v .noncritical .critical) × Few (v .noncritical .noncritical))
+
+abbrev pub FewTable : List ℕ → Type 0
+FewTable table = (i : ℕ) → Few (getD table i 0)
+
+abbrev pub SomeCaps : Caps → Type 0
+SomeCaps caps = (1 ≤ caps .critical) × (1 ≤ caps .noncritical)

@@ -3,6 +3,7 @@ use Prim.Native.Nat.{ℕ, _+_, _*_, _/_, _%_, _≤_, max, min}
 use native.Mathlib.Omega.{arith}
 use mathlib.Core.Bool.{cond}
 use mathlib.Core.List.{List}
+use mathlib.Core.Path.{_≡_, refl}
 use lib.Dec.{ltb}
 use lib.ListN.{length, getD}
 use Rattle.std.proofs.shelf.Tests.{cond-both}
@@ -11,7 +12,7 @@ use Rattle.policy.specs.declared.class.Class.{Class}
 use Rattle.policy.specs.declared.class.Class.the-variants.{Critical, NonCritical}
 use Rattle.policy.specs.declared.holds.FourHolds.{FourHolds}
 use Rattle.policy.specs.Timing.{Timing, Lawful, cap}
-use Rattle.policy.specs.Kinds.{number, caps-of, fixed, cut, line-holds, per-line, in-turn, alternating, capped, FewCaps, FewHolds}
+use Rattle.policy.specs.Kinds.{number, caps-of, fixed, cut, line-holds, per-line, larger, in-turn, alternating, smaller, capped, SomeCaps, FewCaps, FewHolds, FewTable}
 
 few-number : (v : FourHolds) → FewHolds v → (holder requester : Class) → number v holder requester ≤ 65535
 few-number v f Critical Critical = f .0 .0
@@ -39,4 +40,72 @@ fixed-lawful v f =
     ; few-cap = cap-few v f
     ; few-hold = λ k core holder line requester. few-number v f holder requester
     ; capped = λ k core holder line. cap-above v holder
+    }
+
+-- a cut hold is a hold under the cap
+cut-few : (caps : Caps) → (holder requester : Class) (hold : ℕ) → hold ≤ 65535 → cut caps holder requester hold ≤ 65535
+cut-few caps holder Critical hold h = omega arith
+cut-few caps holder NonCritical hold h = h
+
+few-line : (table : List ℕ) → FewTable table → (line : ℕ) → FewHolds (line-holds table line)
+few-line table f line =
+    cond-both (ltb line (length table / 4)) _ _ FewHolds
+    (λ _. ((f (4 * line), f (4 * line + 1)), (f (4 * line + 2), f (4 * line + 3))))
+    (λ _. ((omega arith, omega arith), (omega arith, omega arith)))
+
+some-own : (caps : Caps) → SomeCaps caps → (holder : Class) → 1 ≤ cap caps holder
+some-own caps s Critical = s .0
+some-own caps s NonCritical = s .1
+
+few-own : (caps : Caps) → FewCaps caps → (holder : Class) → cap caps holder ≤ 65535
+few-own caps f Critical = f .0
+few-own caps f NonCritical = f .1
+
+pub per-line-lawful : (table : List ℕ) (caps : Caps) → FewTable table → SomeCaps caps → FewCaps caps → Lawful (per-line table caps)
+per-line-lawful table caps t s f =
+    record
+    { some-cap = some-own caps s
+    ; few-cap = few-own caps f
+    ; few-hold = λ k core holder line requester. cut-few caps holder requester _ (few-number (line-holds table line) (few-line table t line) holder requester)
+    ; capped = λ k core holder line. omega arith
+    }
+
+-- the caps of two sets
+larger-some : (a b : FourHolds) (holder : Class) → 1 ≤ cap (larger (caps-of a) (caps-of b)) holder
+larger-some a b Critical = omega arith
+larger-some a b NonCritical = omega arith
+
+larger-few : (a b : FourHolds) → FewHolds a → FewHolds b → (holder : Class) → cap (larger (caps-of a) (caps-of b)) holder ≤ 65535
+larger-few a b f g Critical = omega (arith, f .0 .0, g .0 .0)
+larger-few a b f g NonCritical = omega (arith, f .1 .0, g .1 .0)
+
+larger-first : (a b : FourHolds) (holder : Class) → number a holder Critical ≤ cap (larger (caps-of a) (caps-of b)) holder
+larger-first a b Critical = omega arith
+larger-first a b NonCritical = omega arith
+
+larger-second : (a b : FourHolds) (holder : Class) → number b holder Critical ≤ cap (larger (caps-of a) (caps-of b)) holder
+larger-second a b Critical = omega arith
+larger-second a b NonCritical = omega arith
+
+pub alternating-lawful : (a b : FourHolds) (n m at : ℕ) → FewHolds a → FewHolds b → Lawful (alternating a b n m at)
+alternating-lawful a b n m at f g =
+    record
+    { some-cap = larger-some a b
+    ; few-cap = larger-few a b f g
+    ; few-hold = λ k core holder line requester. cond-both (ltb ((at + k) % (n + m)) n) _ _ (λ x. x ≤ 65535) (λ _. few-number a f holder requester) (λ _. few-number b g holder requester)
+    ; capped = λ k core holder line. cond-both (ltb ((at + k) % (n + m)) n) _ _ (λ x. x ≤ cap (larger (caps-of a) (caps-of b)) holder) (λ _. larger-first a b holder) (λ _. larger-second a b holder)
+    }
+
+-- the smaller of two caps
+smaller-cap : (a b : Caps) (holder : Class) → cap (smaller a b) holder ≡ min (cap a holder) (cap b holder)
+smaller-cap a b Critical = refl
+smaller-cap a b NonCritical = refl
+
+pub capped-lawful : (caps : Caps) (t : Timing) → SomeCaps caps → Lawful t → Lawful (capped caps t)
+capped-lawful caps t s law =
+    record
+    { some-cap = λ holder. omega (arith, smaller-cap caps (t .caps) holder, some-own caps s holder, law .some-cap holder)
+    ; few-cap = λ holder. omega (arith, smaller-cap caps (t .caps) holder, law .few-cap holder)
+    ; few-hold = λ k core holder line requester. cut-few caps holder requester _ (law .few-hold k core holder line requester)
+    ; capped = λ k core holder line. omega (arith, smaller-cap caps (t .caps) holder, law .capped k core holder line)
     }

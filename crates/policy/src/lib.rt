@@ -11,6 +11,8 @@ use setup::kind::Kind;
 pub mod class;
 pub mod fixed;
 pub mod holds;
+pub mod own_caps;
+pub mod per_line;
 
 // A policy by its meaning, its timing, which obeys the law of policies. It refuses nothing.
 pub trait Policy {
