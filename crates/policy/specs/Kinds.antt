@@ -9,6 +9,8 @@ use Rattle.policy.specs.declared.class.Class.{Class}
 use Rattle.policy.specs.declared.class.Class.the-variants.{Critical, NonCritical}
 use Rattle.policy.specs.declared.holds.Against.{Against}
 use Rattle.policy.specs.declared.holds.FourHolds.{FourHolds}
+use Rattle.policy.specs.declared.schedule.Schedule.{Schedule}
+use Rattle.policy.specs.declared.schedule.Spell.{Spell}
 use Rattle.policy.specs.Timing.{Timing, cap}
 
 -- the number for a requester's class, and for a holder's and a requester's
@@ -56,16 +58,29 @@ abbrev pub per-line : List ℕ → Caps → Timing
 per-line table caps =
     record { caps = caps; hold = λ k core holder line requester. cut caps holder requester (number (line-holds table line) holder requester) }
 
--- kind 3: two sets in turn, the first for n slots and the second for m; now is slot `at` of the period
+-- kind 3: two spells in turn, each with its holds for its number of slots; now is slot `at` of the two
 abbrev pub larger : Caps → Caps → Caps
 larger a b = record { critical = max (a .critical) (b .critical); noncritical = max (a .noncritical) (b .noncritical) }
 
-abbrev pub in-turn : FourHolds → FourHolds → ℕ → ℕ → ℕ → Class → Class → ℕ
-in-turn a b n m slot holder requester = cond (ltb (slot % (n + m)) n) (number a holder requester) (number b holder requester)
+abbrev pub span : Schedule → ℕ
+span s = s .first .slots + s .second .slots
 
-abbrev pub alternating : FourHolds → FourHolds → ℕ → ℕ → ℕ → Timing
-alternating a b n m at =
-    record { caps = larger (caps-of a) (caps-of b); hold = λ k core holder line requester. in-turn a b n m (at + k) holder requester }
+abbrev pub in-turn : Schedule → ℕ → FourHolds
+in-turn s slot = cond (ltb (slot % span s) (s .first .slots)) (s .first .holds) (s .second .holds)
+
+abbrev pub alternating : Schedule → Timing
+alternating s =
+    record
+    { caps = larger (caps-of (s .first .holds)) (caps-of (s .second .holds))
+    ; hold = λ k core holder line requester. number (in-turn s (s .at + k)) holder requester
+    }
+
+-- a length of 0 counts as 1, and the first spell begins
+abbrev pub spell : FourHolds → ℕ → Spell
+spell holds slots = record { holds = holds; slots = max 1 slots }
+
+abbrev pub schedule : Spell → Spell → Schedule
+schedule first second = record { first = first; second = second; at = 0 }
 
 -- kind 4: another policy's timing under caps of one's own
 abbrev pub smaller : Caps → Caps → Caps
@@ -93,3 +108,7 @@ FewTable table = (i : ℕ) → Few (getD table i 0)
 
 abbrev pub SomeCaps : Caps → Type 0
 SomeCaps caps = (1 ≤ caps .critical) × (1 ≤ caps .noncritical)
+
+-- a spell of at least one slot, and of numbers of sixteen bits
+abbrev pub SomeSpell : Spell → Type 0
+SomeSpell s = ((1 ≤ s .slots) × Few (s .slots)) × FewHolds (s .holds)

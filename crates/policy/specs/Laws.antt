@@ -11,8 +11,9 @@ use Rattle.setup.specs.declared.bound.Caps.{Caps}
 use Rattle.policy.specs.declared.class.Class.{Class}
 use Rattle.policy.specs.declared.class.Class.the-variants.{Critical, NonCritical}
 use Rattle.policy.specs.declared.holds.FourHolds.{FourHolds}
+use Rattle.policy.specs.declared.schedule.Schedule.{Schedule}
 use Rattle.policy.specs.Timing.{Timing, Lawful, cap}
-use Rattle.policy.specs.Kinds.{number, caps-of, fixed, cut, line-holds, per-line, larger, in-turn, alternating, smaller, capped, SomeCaps, FewCaps, FewHolds, FewTable}
+use Rattle.policy.specs.Kinds.{number, caps-of, fixed, cut, line-holds, per-line, larger, span, in-turn, alternating, smaller, capped, SomeCaps, FewCaps, FewHolds, FewTable, SomeSpell}
 
 few-number : (v : FourHolds) → FewHolds v → (holder requester : Class) → number v holder requester ≤ 65535
 few-number v f Critical Critical = f .0 .0
@@ -87,13 +88,19 @@ larger-second : (a b : FourHolds) (holder : Class) → number b holder Critical 
 larger-second a b Critical = omega arith
 larger-second a b NonCritical = omega arith
 
-pub alternating-lawful : (a b : FourHolds) (n m at : ℕ) → FewHolds a → FewHolds b → Lawful (alternating a b n m at)
-alternating-lawful a b n m at f g =
+pub alternating-lawful : (s : Schedule) → SomeSpell (s .first) → SomeSpell (s .second) → Lawful (alternating s)
+alternating-lawful s f g =
+    let a = s .first .holds in
+    let b = s .second .holds in
     record
     { some-cap = larger-some a b
-    ; few-cap = larger-few a b f g
-    ; few-hold = λ k core holder line requester. cond-both (ltb ((at + k) % (n + m)) n) _ _ (λ x. x ≤ 65535) (λ _. few-number a f holder requester) (λ _. few-number b g holder requester)
-    ; capped = λ k core holder line. cond-both (ltb ((at + k) % (n + m)) n) _ _ (λ x. x ≤ cap (larger (caps-of a) (caps-of b)) holder) (λ _. larger-first a b holder) (λ _. larger-second a b holder)
+    ; few-cap = larger-few a b (f .1) (g .1)
+    ; few-hold = λ k core holder line requester.
+        cond-both (ltb ((s .at + k) % span s) (s .first .slots)) a b (λ v. number v holder requester ≤ 65535)
+        (λ _. few-number a (f .1) holder requester) (λ _. few-number b (g .1) holder requester)
+    ; capped = λ k core holder line.
+        cond-both (ltb ((s .at + k) % span s) (s .first .slots)) a b (λ v. number v holder Critical ≤ cap (larger (caps-of a) (caps-of b)) holder)
+        (λ _. larger-first a b holder) (λ _. larger-second a b holder)
     }
 
 -- the smaller of two caps

@@ -8,11 +8,14 @@ use crate::class::Class;
 use setup::bound::Caps;
 use setup::kind::Kind;
 
+pub mod alternating;
+pub mod capped;
 pub mod class;
 pub mod fixed;
 pub mod holds;
 pub mod own_caps;
 pub mod per_line;
+pub mod schedule;
 
 // A policy by its meaning, its timing, which obeys the law of policies. It refuses nothing.
 pub trait Policy {
