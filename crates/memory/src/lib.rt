@@ -1,4 +1,4 @@
-// What a memory is, and the memories that lie in a caller's table or buffer.
+// What a memory is, and the memory that lies in a caller's table of words.
 ghost use Prim.Native.Nat.{ℕ, _≤_};
 ghost use Rattle.memory.specs.Words.{reading, storing, stored};
 ghost use Rattle.setup.specs.Refusals.{numbered};
@@ -9,7 +9,6 @@ ghost use mathlib.Core.Path.{_≡_};
 use setup::kind::Kind;
 use setup::refusal::Refusal;
 
-pub mod byte_table;
 pub mod word_table;
 
 // A memory by its meaning, the list of its words. A line at or above the count is refused, and no

@@ -1,3 +1,3 @@
 pub mod Timing
-pub mod Kinds
-pub mod Laws
+pub mod FourNumbers
+pub mod FixedLaw

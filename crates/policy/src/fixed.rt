@@ -1,7 +1,7 @@
 // Policy kind 1: four numbers for every slot, core and line.
 ghost use Prim.Native.Nat.{ℕ, _≤_};
-ghost use Rattle.policy.specs.Kinds.{number, caps-of, fixed, FewHolds};
-ghost use Rattle.policy.specs.Laws.{fixed-lawful};
+ghost use Rattle.policy.specs.FourNumbers.{number, caps-of, fixed, FewHolds};
+ghost use Rattle.policy.specs.FixedLaw.{fixed-lawful};
 ghost use Rattle.policy.specs.Timing.{Timing, Lawful, later};
 ghost use Rattle.policy.specs.declared.class.Class.the-variants.{Critical, NonCritical};
 ghost use denote.Ref.{now};
@@ -57,6 +57,5 @@ pub impl Policy for Fixed as FixedPolicy {
     fn slot_passed(&mut self)
         ensures timing { λ _. ⌜ fixed (now (self .exit) .holds) ≡ later (fixed (now (self .entry) .holds)) ⌝ }
         ensures kept { λ _. ⌜ now (self .exit) ≡ now (self .entry) ⌝ }
-    {
-    }
+    {}
 }

@@ -1,4 +1,4 @@
-// What a timer policy is, and the four kinds.
+// What a timer policy is, and the policy of four fixed holds.
 ghost use Prim.Native.Nat.{ℕ, _≤_};
 ghost use Rattle.policy.specs.Timing.{Timing, Lawful, later};
 ghost use Rattle.policy.specs.declared.class.Class.the-variants.{Critical, NonCritical};
@@ -8,14 +8,9 @@ use crate::class::Class;
 use setup::bound::Caps;
 use setup::kind::Kind;
 
-pub mod alternating;
-pub mod capped;
 pub mod class;
 pub mod fixed;
 pub mod holds;
-pub mod own_caps;
-pub mod per_line;
-pub mod schedule;
 
 // A policy by its meaning, its timing, which obeys the law of policies. It refuses nothing.
 pub trait Policy {

@@ -17,8 +17,8 @@ abbrev pub checking : Draft → Result Draft ℕ
 checking d =
     cond (within 1 8 (d .cores))
     (cond (within 1 (d .cores) (d .critical))
-        (cond (within 1 32 (d .lines)) (cond (within 1 65535 (d .width)) (Ok d) (Err 4)) (Err 3))
-        (Err 2))
+    (cond (within 1 32 (d .lines)) (cond (within 1 65535 (d .width)) (Ok d) (Err 4)) (Err 3))
+    (Err 2))
     (Err 1)
 
 -- what checking answered: the numbers of the set-up, or the refusal's number

@@ -87,31 +87,31 @@ overlaid-put : (ws : List ℕ) (ps : List Place) (line word : ℕ) → line < le
 overlaid-put ws ps line word l len f =
     overlaid-is ws (set (overlaid ws ps) line word) (set ps (line % 16) (Holds line word)) (sym (length-set (overlaid ws ps) line word ∙ length-overlaid ws ps))
     (λ k h. ⊎-elim
-        (λ (s : k ≡ line).
-            let m : line % 16 < length ps = omega arith in
-            let o : line < length (overlaid ws ps) = omega (arith, length-overlaid ws ps) in
-            rw (s, getD-set-same, getD-set-same) (laid-own (Holds line word) line word _ refl))
-        (λ (ne : k ≡ line → ⊥).
-            let o : k ≢ line = ne in
-            ⊎-elim
-            (λ (s : k % 16 ≡ line % 16).
-                let m : line % 16 < length ps = omega arith in
-                let q : getD (overlaid ws ps) k 0 ≡ getD ws k 0 = getD-overlaid ws ps k h ∙ rw s (f k h ne) in
-                rw (s, getD-set-same, getD-set-other, q) (laid-other (Holds line word) line k word _ refl (λ z. ne (sym z))))
-            (λ (nm : k % 16 ≡ line % 16 → ⊥).
-                let m : k % 16 ≢ line % 16 = nm in
-                rw (getD-set-other ps (line % 16) (k % 16) (Holds line word) Free m, getD-set-other (overlaid ws ps) line k word 0 o) (sym (getD-overlaid ws ps k h)))
-            (cases-eq (k % 16) (line % 16)))
-        (cases-eq k line))
+    (λ (s : k ≡ line).
+    let m : line % 16 < length ps = omega arith in
+    let o : line < length (overlaid ws ps) = omega (arith, length-overlaid ws ps) in
+    rw (s, getD-set-same, getD-set-same) (laid-own (Holds line word) line word _ refl))
+    (λ (ne : k ≡ line → ⊥).
+    let o : k ≢ line = ne in
+    ⊎-elim
+    (λ (s : k % 16 ≡ line % 16).
+    let m : line % 16 < length ps = omega arith in
+    let q : getD (overlaid ws ps) k 0 ≡ getD ws k 0 = getD-overlaid ws ps k h ∙ rw s (f k h ne) in
+    rw (s, getD-set-same, getD-set-other, q) (laid-other (Holds line word) line k word _ refl (λ z. ne (sym z))))
+    (λ (nm : k % 16 ≡ line % 16 → ⊥).
+    let m : k % 16 ≢ line % 16 = nm in
+    rw (getD-set-other ps (line % 16) (k % 16) (Holds line word) Free m, getD-set-other (overlaid ws ps) line k word 0 o) (sym (getD-overlaid ws ps k h)))
+    (cases-eq (k % 16) (line % 16)))
+    (cases-eq k line))
 
 -- a held word that also lies below
 overlaid-below : (ws : List ℕ) (ps : List Place) (at old : ℕ) → getD ps (at % 16) Free ≡ Holds at old → overlaid (set ws at old) ps ≡ overlaid ws ps
 overlaid-below ws ps at old e =
     same-overlaid (set ws at old) ws ps ps (length-set ws at old)
     (λ k h. ⊎-elim
-        (λ (s : k ≡ at). rw s (laid-own _ at old _ e ∙ sym (laid-own _ at old _ e)))
-        (λ (ne : k ≡ at → ⊥). rw getD-set-other refl)
-        (cases-eq k at))
+    (λ (s : k ≡ at). rw s (laid-own _ at old _ e ∙ sym (laid-own _ at old _ e)))
+    (λ (ne : k ≡ at → ⊥). rw getD-set-other refl)
+    (cases-eq k at))
 
 -- a store to a line: the place's word goes below, and the line's comes into the place
 pub overlaid-store : (ws : List ℕ) (ps : List Place) (line word : ℕ) (p : Place) → line < length ws → length ps ≡ 16 → Placed ps → getD ps (line % 16) Free ≡ p
@@ -120,21 +120,21 @@ overlaid-store ws ps line word Free l len ok e = overlaid-put ws ps line word l 
 overlaid-store ws ps line word (Holds at old) l len ok e =
     ⊎-elim
     (λ (s : at ≡ line).
-        ap (λ vs. overlaid vs (set ps (line % 16) (Holds line word))) (cond-true (eqb at line) ws (stored ws at old) (eq-eqb at line s))
-        ∙ overlaid-put ws ps line word l len (λ k kl ne. laid-other _ at k old _ e (λ z. ne (sym z ∙ s))))
+    ap (λ vs. overlaid vs (set ps (line % 16) (Holds line word))) (cond-true (eqb at line) ws (stored ws at old) (eq-eqb at line s))
+    ∙ overlaid-put ws ps line word l len (λ k kl ne. laid-other _ at k old _ e (λ z. ne (sym z ∙ s))))
     (λ (n : at ≡ line → ⊥).
-        let m : line % 16 < 16 = omega arith in
-        let e2 : getD ps (at % 16) Free ≡ Holds at old = ap (λ i. getD ps i Free) (own-place ps (line % 16) at old m ok e) ∙ e in
-        let l2 : line < length (set ws at old) = omega (arith, length-set ws at old) in
-        ap (λ vs. overlaid vs (set ps (line % 16) (Holds line word))) (cond-false (eqb at line) ws (stored ws at old) (ne-eqb at line n) ∙ stored-set ws at old)
-        ∙ overlaid-put (set ws at old) ps line word l2 len
-            (λ k kl nk. ⊎-elim
-                (λ (s : k ≡ at).
-                    let b : at < length ws = omega (arith, length-set ws at old) in
-                    rw s (laid-own _ at old _ e ∙ sym (getD-set-same ws at old 0 b)))
-                (λ (s : k ≡ at → ⊥). laid-other _ at k old _ e (λ z. s (sym z)))
-                (cases-eq k at))
-        ∙ ap (λ x. set x line word) (overlaid-below ws ps at old e2))
+    let m : line % 16 < 16 = omega arith in
+    let e2 : getD ps (at % 16) Free ≡ Holds at old = ap (λ i. getD ps i Free) (own-place ps (line % 16) at old m ok e) ∙ e in
+    let l2 : line < length (set ws at old) = omega (arith, length-set ws at old) in
+    ap (λ vs. overlaid vs (set ps (line % 16) (Holds line word))) (cond-false (eqb at line) ws (stored ws at old) (ne-eqb at line n) ∙ stored-set ws at old)
+    ∙ overlaid-put (set ws at old) ps line word l2 len
+    (λ k kl nk. ⊎-elim
+    (λ (s : k ≡ at).
+    let b : at < length ws = omega (arith, length-set ws at old) in
+    rw s (laid-own _ at old _ e ∙ sym (getD-set-same ws at old 0 b)))
+    (λ (s : k ≡ at → ⊥). laid-other _ at k old _ e (λ z. s (sym z)))
+    (cases-eq k at))
+    ∙ ap (λ x. set x line word) (overlaid-below ws ps at old e2))
     (cases-eq at line)
 
 pub overlaid-stored : (ws : List ℕ) (ps : List Place) (line word : ℕ) → line < length ws → length ps ≡ 16 → Placed ps
@@ -150,18 +150,18 @@ overlaid-release ws ps i line word l len ok e =
     let m : i < length ps = omega arith in
     ap (λ x. overlaid x (set ps i Free)) (stored-set ws line word)
     ∙ same-overlaid (set ws line word) ws (set ps i Free) ps (length-set ws line word)
-        (λ k h. ⊎-elim
-            (λ (s : k ≡ line).
-                let b : line < length ws = omega (arith, length-set ws line word) in
-                rw (s, f, getD-set-same ps i Free Free m, getD-set-same ws line word 0 b) (sym (laid-own _ line word _ e)))
-            (λ (n : k ≡ line → ⊥).
-                let o : k ≢ line = n in
-                ap (λ w. laid (getD (set ps i Free) (k % 16) Free) k w) (getD-set-other ws line k word 0 o)
-                ∙ ⊎-elim
-                    (λ (s : k % 16 ≡ i). rw (s, getD-set-same ps i Free Free m) (sym (laid-other _ line k word _ e (λ z. n (sym z)))))
-                    (λ (q : k % 16 ≡ i → ⊥). let r : k % 16 ≢ i = q in ap (λ p. laid p k (getD ws k 0)) (getD-set-other ps i (k % 16) Free Free r))
-                    (cases-eq (k % 16) i))
-            (cases-eq k line))
+    (λ k h. ⊎-elim
+    (λ (s : k ≡ line).
+    let b : line < length ws = omega (arith, length-set ws line word) in
+    rw (s, f, getD-set-same ps i Free Free m, getD-set-same ws line word 0 b) (sym (laid-own _ line word _ e)))
+    (λ (n : k ≡ line → ⊥).
+    let o : k ≢ line = n in
+    ap (λ w. laid (getD (set ps i Free) (k % 16) Free) k w) (getD-set-other ws line k word 0 o)
+    ∙ ⊎-elim
+    (λ (s : k % 16 ≡ i). rw (s, getD-set-same ps i Free Free m) (sym (laid-other _ line k word _ e (λ z. n (sym z)))))
+    (λ (q : k % 16 ≡ i → ⊥). let r : k % 16 ≢ i = q in ap (λ p. laid p k (getD ws k 0)) (getD-set-other ps i (k % 16) Free Free r))
+    (cases-eq (k % 16) i))
+    (cases-eq k line))
 
 -- counting the places that have a word
 pub held-more : (count : ℕ) (ps : List Place) (n : ℕ) → held-in count ps (n + 1) ≡ held-in count ps n + held count (getD ps n Free)

@@ -17,6 +17,9 @@ impl<M: Memory> LastLevelStore<M> {
         ensures below { λ r. ⌜ r .below ≡ below ⌝ }
         ensures places { λ r. ⌜ r .places ≡ replicate 16 Free ⌝ }
     {
-        LastLevelStore { below, places: [Place::Free; 16] }
+        LastLevelStore {
+            below,
+            places: [Place::Free; 16],
+        }
     }
 }

@@ -1,4 +1,4 @@
-ghost use Rattle.policy.specs.Kinds.{fixed};
+ghost use Rattle.policy.specs.FourNumbers.{fixed};
 ghost use Rattle.policy.specs.contracts.fixed.FixedPolicy.the-impl.{ghosts as meant};
 ghost use mathlib.Core.Path.{_≡_};
 use crate::fixed::Fixed;

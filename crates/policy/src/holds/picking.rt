@@ -1,4 +1,4 @@
-ghost use Rattle.policy.specs.Kinds.{number, caps-of};
+ghost use Rattle.policy.specs.FourNumbers.{number, caps-of};
 ghost use Rattle.policy.specs.declared.class.Class.the-variants.{Critical, NonCritical};
 ghost use mathlib.Core.Path.{_≡_};
 use crate::class::Class;
@@ -21,6 +21,9 @@ impl FourHolds {
     pub fn caps(self) -> Caps
         ensures { λ r. ⌜ r ≡ caps-of self ⌝ }
     {
-        Caps { critical: self.critical.critical.max(1), noncritical: self.noncritical.critical.max(1) }
+        Caps {
+            critical: self.critical.critical.max(1),
+            noncritical: self.noncritical.critical.max(1),
+        }
     }
 }

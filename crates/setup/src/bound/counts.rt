@@ -16,7 +16,9 @@ impl Slots {
     pub fn cycles(self, setup: &SetUp) -> Cycles
         ensures { λ r. ⌜ r .count ≡ cycles (now (setup .entry) .draft .width) (self .count) ⌝ }
     {
-        Cycles { count: u64::from(self.count) * u64::from(setup.width()) }
+        Cycles {
+            count: u64::from(self.count) * u64::from(setup.width()),
+        }
     }
 }
 
@@ -36,6 +38,8 @@ impl SetUp {
         let others = self.critical() - 1;
         let hc = u32::from(caps.critical);
         let hn = u32::from(caps.noncritical);
-        Slots { count: 2 * others + hc.max(hn) + others * (hc + others) }
+        Slots {
+            count: 2 * others + hc.max(hn) + others * (hc + others),
+        }
     }
 }

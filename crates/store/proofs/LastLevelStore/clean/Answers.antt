@@ -30,16 +30,16 @@ loop-i-again g c =
     let count = length (g .M·Memory .words (c .args .self .now .below)) in
     let h : held (length (g .M·Memory .words (c .loop-i .self .below))) (getD ps i Free) ≡ held count (getD (c .args .self .now .places) i Free) = ap (λ n. held n (getD ps i Free)) (v .6) ∙ ap (held count) (v .4 i (omega arith)) in
     let lt : i < length ps = omega (arith, v .2) in
-    let other : (k : ℕ) → (k ≡ i → ⊥) → getD (c .release-stored .last .self .places) k Free ≡ getD ps k Free = λ k n. let ne : k ≢ i = n in ap (λ (qs : List Place). getD qs k Free) (s .places) ∙ getD-set-other ps i k Free Free ne in
-    ( s .meaning ∙ v .0
-    , omega (arith, v .1, s .value, h, held-more count (c .args .self .now .places) i)
-    , ap length (s .places) ∙ length-set ps i Free ∙ v .2
-    , below-more _ _
-        (λ k b. other k (λ e. omega arith) ∙ v .3 k b)
-        (ap (λ (qs : List Place). getD qs i Free) (s .places) ∙ getD-set-same ps i Free Free lt)
-    , (λ k b. other k (λ e. omega arith) ∙ v .4 k (omega arith))
-    , omega (arith, v .5, s .value, held-most (length (g .M·Memory .words (c .loop-i .self .below))) (getD ps i Free))
-    , s .count ∙ v .6
+    let other : (k : ℕ) → (k ≡ i → ⊥) → getD (c .release-stored .last .self .places) k Free ≡ getD ps k Free = λ k n. let ne : k ≢ i = n in ap (λ (qs : List Place). getD qs k Free) (s .places) ∙ getD-set-other ps i k Free Free ne in (
+      s .meaning ∙ v .0,
+      omega (arith, v .1, s .value, h, held-more count (c .args .self .now .places) i),
+      ap length (s .places) ∙ length-set ps i Free ∙ v .2,
+      below-more _ _
+          (λ k b. other k (λ e. omega arith) ∙ v .3 k b)
+          (ap (λ (qs : List Place). getD qs i Free) (s .places) ∙ getD-set-same ps i Free Free lt),
+      (λ k b. other k (λ e. omega arith) ∙ v .4 k (omega arith)),
+      omega (arith, v .5, s .value, held-most (length (g .M·Memory .words (c .loop-i .self .below))) (getD ps i Free)),
+      s .count ∙ v .6,
     )
 
 pub returns : need.returns
@@ -47,9 +47,9 @@ returns g c =
     let v = c .loop-i .inv in
     let e : c .loop-i .i ≡ 16 = omega arith in
     let free = all-free (c .loop-i .self .places) (v .2) (λ k b. v .3 k (omega arith)) in
-    record
-    { value = v .1 ∙ ap (held-in (length (g .M·Memory .words (c .args .self .now .below))) (c .args .self .now .places)) e
-    ; meaning = v .0
-    ; below = sym (overlaid-free _) ∙ ap (overlaid (g .M·Memory .words (c .loop-i .self .below))) (sym free) ∙ v .0
-    ; places = free
+    record {
+      value = v .1 ∙ ap (held-in (length (g .M·Memory .words (c .args .self .now .below))) (c .args .self .now .places)) e;
+      meaning = v .0;
+      below = sym (overlaid-free _) ∙ ap (overlaid (g .M·Memory .words (c .loop-i .self .below))) (sym free) ∙ v .0;
+      places = free;
     }

@@ -5,10 +5,10 @@ use Rattle.store.proofs.LastLevelStore.over.Needs as need
 
 pub returns : need.returns
 returns g c =
-    record
-    { kind = λ d. refl
-    ; words = λ d. overlaid-free _
-    ; count = λ d. ap length (overlaid-free (g .M·Memory .words (c .args .below)))
-    ; below = refl
-    ; places = refl
+    record {
+      kind = λ d. refl;
+      words = λ d. overlaid-free _;
+      count = λ d. ap length (overlaid-free (g .M·Memory .words (c .args .below)));
+      below = refl;
+      places = refl;
     }

@@ -12,12 +12,12 @@ pub returns-then-line-count : need.returns-then-line-count
 returns-then-line-count g c =
     let ws = g .M·Memory .words (c .args .self .now .below) in
     let ps = c .args .self .now .places in
-    record
-    { value = storing-past (overlaid ws ps) _ (omega (arith, length-overlaid ws ps))
-    ; after = stored-past (overlaid ws ps) _ _ (omega (arith, length-overlaid ws ps))
-    ; refused = λ h. refl
-    ; below = cond-above (c .args .line) (length ws) _ _ _ (omega arith) refl
-    ; places = cond-above (c .args .line) (length ws) _ _ _ (omega arith) refl
+    record {
+      value = storing-past (overlaid ws ps) _ (omega (arith, length-overlaid ws ps));
+      after = stored-past (overlaid ws ps) _ _ (omega (arith, length-overlaid ws ps));
+      refused = λ h. refl;
+      below = cond-above (c .args .line) (length ws) _ _ _ (omega arith) refl;
+      places = cond-above (c .args .line) (length ws) _ _ _ (omega arith) refl;
     }
 
 pub returns : need.returns
@@ -27,13 +27,13 @@ returns g c =
     let ps = s .places in
     let room = c .make-room .ensures in
     let put = Holds (c .args .line) (c .args .word) in
-    record
-    { value = storing-at (overlaid ws ps) _ (omega (arith, length-overlaid ws ps))
-    ; after =
-        ap (λ qs. overlaid (g .M·Memory .words (c .make-room .last .self .below)) (set qs (place-of (c .args .line)) put)) (room .places)
-        ∙ ap (λ vs. overlaid vs (set ps (place-of (c .args .line)) put)) (room .below)
-        ∙ overlaid-stored ws ps (c .args .line) (c .args .word) (omega arith) (s .sixteen) (s .fitting)
-    ; refused = λ h. absurd (omega (arith, length-overlaid ws ps))
-    ; below = room .below ∙ cond-below (c .args .line) (length ws) _ _ (omega arith)
-    ; places = ap (λ qs. set qs (place-of (c .args .line)) put) (room .places) ∙ cond-below (c .args .line) (length ws) _ _ (omega arith)
+    record {
+      value = storing-at (overlaid ws ps) _ (omega (arith, length-overlaid ws ps));
+      after =
+          ap (λ qs. overlaid (g .M·Memory .words (c .make-room .last .self .below)) (set qs (place-of (c .args .line)) put)) (room .places)
+          ∙ ap (λ vs. overlaid vs (set ps (place-of (c .args .line)) put)) (room .below)
+          ∙ overlaid-stored ws ps (c .args .line) (c .args .word) (omega arith) (s .sixteen) (s .fitting);
+      refused = λ h. absurd (omega (arith, length-overlaid ws ps));
+      below = room .below ∙ cond-below (c .args .line) (length ws) _ _ (omega arith);
+      places = ap (λ qs. set qs (place-of (c .args .line)) put) (room .places) ∙ cond-below (c .args .line) (length ws) _ _ (omega arith);
     }
