@@ -1,0 +1,55 @@
+-- The head of a run file.
+use Prim.Native.Nat.{ℕ}
+use mathlib.Core.Bool.{cond}
+use mathlib.Core.List.{List}
+use lib.Dec.{ltb, leb}
+use lib.ListN.{length}
+use denote.Ref.{RefT}
+use Rattle.std.specs.declared.option.Option.the-variants.{Some, None}
+use Rattle.std.specs.declared.result.Result.{Result}
+use Rattle.std.specs.declared.result.Result.the-variants.{Ok, Err}
+use Rattle.policy.specs.declared.holds.FourHolds.{FourHolds}
+use Rattle.setup.specs.Refusals.{number}
+use Rattle.setup.specs.declared.draft.Draft.{Draft}
+use Rattle.setup.specs.declared.refusal.Refusal.{Refusal}
+use Rattle.runfile.specs.Fields.{Parsed, then, fixed, field, stands}
+use Rattle.runfile.specs.declared.head.Head.{Head}
+
+-- cores, critical cores and lines of one byte each, and the slot width of two
+abbrev pub draft-of : ℕ → List ℕ → Parsed Draft
+draft-of map bs =
+    then (field (stands map 1) 1 4 bs) (λ cores a.
+    then (field (stands map 2) 1 2 a) (λ critical b.
+    then (field (stands map 4) 1 32 b) (λ lines c.
+    then (field (stands map 8) 2 50 c) (λ width d.
+    Some (record { cores = cores; critical = critical; lines = lines; width = width }, d)))))
+
+-- the four holds of two bytes each, all present or none
+abbrev pub holds-of : ℕ → List ℕ → Parsed FourHolds
+holds-of map bs =
+    then (field (stands map 16) 2 4 bs) (λ cc a.
+    then (field (stands map 16) 2 8 a) (λ cn b.
+    then (field (stands map 16) 2 2 b) (λ nc c.
+    then (field (stands map 16) 2 4 c) (λ nn d.
+    Some (record { critical = record { critical = cc; noncritical = cn }; noncritical = record { critical = nc; noncritical = nn } }, d)))))
+
+-- the map byte, in which no bit above the fifth may stand, and then the fields
+abbrev pub head : List ℕ → Parsed Head
+head bs =
+    then (fixed 1 bs) (λ map a.
+    cond (ltb map 32)
+    (then (draft-of map a) (λ draft b. then (holds-of map b) (λ holds c. Some (record { draft = draft; holds = holds }, c))))
+    None)
+
+abbrev or-refused : {A : Type 0} → Parsed A → Result (A × List ℕ) ℕ
+or-refused None = Err 10
+or-refused (Some p) = Ok p
+
+-- what reading the head of a file answers
+abbrev pub reading : List ℕ → Result (Head × List ℕ) ℕ
+reading file = cond (leb (length file) 65536) (or-refused (head file)) (Err 10)
+
+-- what a function over a slice answered: the bytes after the head as a list, a refusal by its number
+abbrev pub outcome : Result (Head × RefT (List ℕ)) Refusal → Result (Head × List ℕ) ℕ
+outcome (Ok p) = Ok (p .0, p .1 .now)
+outcome (Err e) = Err (number e)
