@@ -1,0 +1,4 @@
+// The lines of a listing, as values and as text in a caller's buffer.
+
+pub mod line;
+mod text;
