@@ -9,6 +9,7 @@ use Rattle.std.specs.Written.{decimal}
 use Rattle.std.specs.declared.result.Result.{Result}
 use Rattle.std.specs.declared.result.Result.the-variants.{Ok, Err}
 use Rattle.setup.specs.Refusals.{number}
+use Rattle.listing.specs.declared.line.HubLine.{HubLine}
 use Rattle.listing.specs.declared.line.Line.{Line}
 use Rattle.listing.specs.declared.line.Line.the-variants.{Hub, No}
 
@@ -17,16 +18,22 @@ abbrev pub spaced : ℕ → List ℕ
 spaced n = 32 ∷ decimal n
 
 -- each line ends with byte 10
-abbrev pub text : Line → List ℕ
-text (Hub h) =
+abbrev pub hub-text : HubLine → List ℕ
+hub-text h =
     codes "HUB" ++ spaced (h .cores) ++ spaced (h .critical) ++ spaced (h .lines) ++ spaced (h .width) ++ spaced (h .memory) ++ spaced (h .policy)
     ++ spaced (h .bound .count) ++ spaced (h .cycles .count) ++ (10 ∷ [])
-text (No refusal) = codes "NO" ++ spaced (number refusal) ++ (10 ∷ [])
 
--- what writing a line into a buffer answers
-abbrev pub answer : List ℕ → Line → Result ℕ ℕ
-answer old line = cond (leb 64 (length old)) (Ok (length (text line))) (Err 11)
+abbrev pub no-text : ℕ → List ℕ
+no-text number = codes "NO" ++ spaced number ++ (10 ∷ [])
+
+abbrev pub text : Line → List ℕ
+text (Hub hub) = hub-text hub
+text (No refusal) = no-text (number refusal)
+
+-- what writing a line's text into a buffer answers
+abbrev pub answer : List ℕ → List ℕ → Result ℕ ℕ
+answer old line = cond (leb 64 (length old)) (Ok (length line)) (Err 11)
 
 -- the buffer after it: the line, and behind it the bytes that stood there
-abbrev pub after : List ℕ → Line → List ℕ
-after old line = cond (leb 64 (length old)) (text line ++ drop (length (text line)) old) old
+abbrev pub after : List ℕ → List ℕ → List ℕ
+after old line = cond (leb 64 (length old)) (line ++ drop (length line) old) old

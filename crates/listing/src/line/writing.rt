@@ -1,7 +1,7 @@
 ghost use Prim.Native.Nat.{_≤_};
-ghost use Rattle.listing.specs.Lines.{text, answer, after};
+ghost use Rattle.listing.specs.Lines.{text, hub-text, no-text, answer, after};
 ghost use Rattle.listing.specs.Texts.{shown};
-ghost use Rattle.setup.specs.Refusals.{numbered};
+ghost use Rattle.setup.specs.Refusals.{number, numbered};
 ghost use Rattle.std.specs.Results.{isOk};
 ghost use Rattle.std.specs.Vec.{made};
 ghost use lib.ListN.{length, take};
@@ -18,8 +18,8 @@ const ROOM: usize = 64;
 // Writes the line to the front of the buffer, and answers its length. The bytes after it stay as
 // they were, and all of them where the buffer has fewer than 64.
 pub fn write_line(out: &mut [u8], line: Line) -> Result<usize, Refusal>
-    ensures value { λ r. ⌜ numbered r ≡ answer (now (out .entry)) line ⌝ }
-    ensures after { λ _. ⌜ now (out .exit) ≡ after (now (out .entry)) line ⌝ }
+    ensures value { λ r. ⌜ numbered r ≡ answer (now (out .entry)) (text line) ⌝ }
+    ensures after { λ _. ⌜ now (out .exit) ≡ after (now (out .entry)) (text line) ⌝ }
     ensures placed { λ r. ⌜ made r (λ n. (n ≤ 64) × (n ≤ length (now (out .exit))) × (take n (now (out .exit)) ≡ text line)) ⌝ }
     ensures succeeds { λ r. ⌜ (64 ≤ length (now (out .entry)) → isOk r ≡ true) ⌝ }
 {
@@ -43,7 +43,7 @@ fn line_text(line: Line) -> Text
 }
 
 fn hub_text(hub: HubLine) -> Text
-    ensures { λ r. ⌜ shown r ≡ text (Line.Hub hub) ⌝ }
+    ensures { λ r. ⌜ shown r ≡ hub-text hub ⌝ }
 {
     let mut text = Text::empty();
     text.put_word(b"HUB");
@@ -60,7 +60,7 @@ fn hub_text(hub: HubLine) -> Text
 }
 
 fn no_text(refusal: Refusal) -> Text
-    ensures { λ r. ⌜ shown r ≡ text (Line.No refusal) ⌝ }
+    ensures { λ r. ⌜ shown r ≡ no-text (number refusal) ⌝ }
 {
     let mut text = Text::empty();
     text.put_word(b"NO");
