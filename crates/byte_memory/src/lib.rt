@@ -64,8 +64,7 @@ pub impl Memory for ByteTable<'_> as ByteTableMemory {
         ensures value { λ r. ⌜ r ≡ 2 ⌝ }
         ensures some { λ r. ⌜ 1 ≤ r ⌝ }
     {
-        let kind = <Self as Memory>::KIND;
-        kind.number()
+        <Self as Memory>::KIND.number
     }
 
     fn count(&self) -> usize

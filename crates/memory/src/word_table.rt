@@ -28,8 +28,7 @@ pub impl Memory for WordTable<'_> as WordTableMemory {
         ensures value { λ r. ⌜ r ≡ 1 ⌝ }
         ensures some { λ r. ⌜ 1 ≤ r ⌝ }
     {
-        let kind = <Self as Memory>::KIND;
-        kind.number()
+        <Self as Memory>::KIND.number
     }
 
     fn count(&self) -> usize

@@ -33,8 +33,7 @@ pub impl Policy for Fixed as FixedPolicy {
         ensures value { λ r. ⌜ r ≡ 1 ⌝ }
         ensures some { λ r. ⌜ 1 ≤ r ⌝ }
     {
-        let kind = <Self as Policy>::KIND;
-        kind.number()
+        <Self as Policy>::KIND.number
     }
 
     fn caps(&mut self) -> Caps

@@ -35,8 +35,7 @@ pub impl Policy for Alternating as AlternatingPolicy {
         ensures value { λ r. ⌜ r ≡ 3 ⌝ }
         ensures some { λ r. ⌜ 1 ≤ r ⌝ }
     {
-        let kind = <Self as Policy>::KIND;
-        kind.number()
+        <Self as Policy>::KIND.number
     }
 
     fn caps(&mut self) -> Caps

@@ -15,7 +15,7 @@ use setup::kind::Kind;
 pub mod making;
 
 // The prover does not know the value of an associated constant of a generic impl, so that it has
-// this name besides.
+// this name besides, which the impl's methods read.
 const CAPPED: Kind = Kind { number: 4 };
 
 #[derive(Drop)]
@@ -37,7 +37,7 @@ pub impl<P: Policy> Policy for Capped<P> as CappedPolicy {
         ensures value { λ r. ⌜ r ≡ 4 ⌝ }
         ensures some { λ r. ⌜ 1 ≤ r ⌝ }
     {
-        CAPPED.number()
+        CAPPED.number
     }
 
     fn caps(&mut self) -> Caps

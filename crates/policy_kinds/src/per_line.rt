@@ -64,8 +64,7 @@ pub impl Policy for PerLine<'_> as PerLinePolicy {
         ensures value { λ r. ⌜ r ≡ 2 ⌝ }
         ensures some { λ r. ⌜ 1 ≤ r ⌝ }
     {
-        let kind = <Self as Policy>::KIND;
-        kind.number()
+        <Self as Policy>::KIND.number
     }
 
     fn caps(&mut self) -> Caps

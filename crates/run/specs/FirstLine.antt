@@ -17,15 +17,15 @@ use Rattle.listing.specs.declared.line.HubLine.{HubLine}
 -- the hub of a set-up, on a memory of a count and a kind and a policy of a kind and caps
 abbrev pub hub-line : Draft → ℕ → ℕ → ℕ → Caps → HubLine
 hub-line d count memory policy caps =
-    record
-    { cores = d .cores
-    ; critical = d .critical
-    ; lines = min (d .lines) count
-    ; width = d .width
-    ; memory = memory
-    ; policy = policy
-    ; bound = record { count = bound (d .critical) caps }
-    ; cycles = record { count = cycles (d .width) (bound (d .critical) caps) }
+    record {
+      cores = d .cores;
+      critical = d .critical;
+      lines = min (d .lines) count;
+      width = d .width;
+      memory = memory;
+      policy = policy;
+      bound = record { count = bound (d .critical) caps };
+      cycles = record { count = cycles (d .width) (bound (d .critical) caps) };
     }
 
 -- a hub on a last-level store and on four fixed holds

@@ -20,11 +20,19 @@ pub fn two_bytes(bytes: &[u8]) -> Option<(u16, &[u8])>
 pub fn byte_or(present: bool, absent: u8, bytes: &[u8]) -> Option<(u8, &[u8])>
     ensures value { λ r. ⌜ seen r ≡ field present 1 absent (now (bytes .entry)) ⌝ }
 {
-    if present { byte(bytes) } else { Some((absent, bytes)) }
+    if present {
+        byte(bytes)
+    } else {
+        Some((absent, bytes))
+    }
 }
 
 pub fn two_bytes_or(present: bool, absent: u16, bytes: &[u8]) -> Option<(u16, &[u8])>
     ensures value { λ r. ⌜ seen r ≡ field present 2 absent (now (bytes .entry)) ⌝ }
 {
-    if present { two_bytes(bytes) } else { Some((absent, bytes)) }
+    if present {
+        two_bytes(bytes)
+    } else {
+        Some((absent, bytes))
+    }
 }

@@ -3,7 +3,7 @@ use Prim.Native.Nat.{ℕ}
 use Rattle.std.specs.declared.result.Result.{Result}
 use Rattle.std.specs.declared.result.Result.the-variants.{Ok, Err}
 use Rattle.setup.specs.declared.refusal.Refusal.{Refusal}
-use Rattle.setup.specs.declared.refusal.Refusal.the-variants.{CoreCount, CriticalCount, LineCount, SlotWidth, NoSuchCore, NoSuchLine, RequestPending, LineTurnedDown, PastMemory, Unreadable, ShortBuffer}
+use Rattle.setup.specs.declared.refusal.Refusal.the-variants.{CoreCount, CriticalCount, LineCount, SlotWidth, NoSuchCore, NoSuchLine, RequestPending, MemoryRefused, PastMemory, Unreadable, ShortBuffer}
 
 abbrev pub number : Refusal → ℕ
 number CoreCount = 1
@@ -13,7 +13,7 @@ number SlotWidth = 4
 number NoSuchCore = 5
 number NoSuchLine = 6
 number RequestPending = 7
-number LineTurnedDown = 8
+number MemoryRefused = 8
 number PastMemory = 9
 number Unreadable = 10
 number ShortBuffer = 11

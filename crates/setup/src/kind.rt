@@ -6,5 +6,3 @@ pub struct Kind {
     pub number: u8,
     ghost some: { 1 ≤ number },
 }
-
-pub mod numbers;

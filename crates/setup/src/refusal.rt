@@ -18,7 +18,7 @@ pub enum Refusal {
     // The core's request is not free.
     RequestPending,
     // The memory turned down a line that the hub needs.
-    LineTurnedDown,
+    MemoryRefused,
     // The line lies at or above the memory's count.
     PastMemory,
     // The head or an event of a run file cannot be read.

@@ -19,7 +19,7 @@ pub mod making;
 pub mod place;
 
 // The prover does not know the value of an associated constant of a generic impl, so that it has
-// this name besides.
+// this name besides, which the impl's methods read.
 const LAST_LEVEL: Kind = Kind { number: 3 };
 
 #[derive(Drop)]
@@ -59,7 +59,7 @@ pub impl<M: Memory> Memory for LastLevelStore<M> as LastLevelStoreMemory {
         ensures value { λ r. ⌜ r ≡ 3 ⌝ }
         ensures some { λ r. ⌜ 1 ≤ r ⌝ }
     {
-        LAST_LEVEL.number()
+        LAST_LEVEL.number
     }
 
     fn count(&self) -> usize

@@ -4,5 +4,4 @@ ghost use Rattle.worked_cases.specs.Table.{Worked};
 // Each case of the table comes out as worked by hand.
 pub fn worked_cases_hold()
     ensures { λ _. ⌜ Worked ⌝ }
-{
-}
+{}

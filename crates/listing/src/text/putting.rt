@@ -13,7 +13,10 @@ impl Text {
         ensures shown { λ r. ⌜ shown r ≡ [] ⌝ }
         ensures len { λ r. ⌜ r .len ≡ 0 ⌝ }
     {
-        Text { bytes: [0; 64], len: 0 }
+        Text {
+            bytes: [0; 64],
+            len: 0,
+        }
     }
 
     pub fn put_byte(&mut self, byte: u8)

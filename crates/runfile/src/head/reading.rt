@@ -15,10 +15,15 @@ const MOST_BYTES: usize = 65536;
 
 // The bits of the map byte.
 const CORES: u8 = 1;
+
 const CRITICAL: u8 = 2;
+
 const LINES: u8 = 4;
+
 const WIDTH: u8 = 8;
+
 const HOLDS: u8 = 16;
+
 const FIRST_UNNAMED: u8 = 32;
 
 // The head of a run file and the bytes after it, or the refusal of a file that cannot be read.
@@ -71,8 +76,14 @@ fn holds(map: u8, bytes: &[u8]) -> Option<(FourHolds, &[u8])>
     let (nc, bytes) = two_bytes_or(present, 2, bytes)?;
     let (nn, bytes) = two_bytes_or(present, 4, bytes)?;
     let holds = FourHolds {
-        critical: Against { critical: cc, noncritical: cn },
-        noncritical: Against { critical: nc, noncritical: nn },
+        critical: Against {
+            critical: cc,
+            noncritical: cn,
+        },
+        noncritical: Against {
+            critical: nc,
+            noncritical: nn,
+        },
     };
     Some((holds, bytes))
 }

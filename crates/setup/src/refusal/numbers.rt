@@ -15,7 +15,7 @@ impl Refusal {
             Refusal::NoSuchCore => 5,
             Refusal::NoSuchLine => 6,
             Refusal::RequestPending => 7,
-            Refusal::LineTurnedDown => 8,
+            Refusal::MemoryRefused => 8,
             Refusal::PastMemory => 9,
             Refusal::Unreadable => 10,
             Refusal::ShortBuffer => 11,
