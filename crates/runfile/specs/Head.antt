@@ -33,15 +33,18 @@ holds-of map bs =
     then (field (stands map 16) 2 4 c) (λ nn d.
     Some (record { critical = record { critical = cc; noncritical = cn }; noncritical = record { critical = nc; noncritical = nn } }, d)))))
 
+-- the fields, one after the other
+abbrev pub fields-of : ℕ → List ℕ → Parsed Head
+fields-of map bs =
+    then (draft-of map bs) (λ draft a.
+    then (holds-of map a) (λ holds b.
+    Some (record { draft = draft; holds = holds }, b)))
+
 -- the map byte, in which no bit above the fifth may stand, and then the fields
 abbrev pub head : List ℕ → Parsed Head
-head bs =
-    then (fixed 1 bs) (λ map a.
-    cond (ltb map 32)
-    (then (draft-of map a) (λ draft b. then (holds-of map b) (λ holds c. Some (record { draft = draft; holds = holds }, c))))
-    None)
+head bs = then (fixed 1 bs) (λ map a. cond (ltb map 32) (fields-of map a) None)
 
-abbrev or-refused : {A : Type 0} → Parsed A → Result (A × List ℕ) ℕ
+abbrev pub or-refused : {A : Type 0} → Parsed A → Result (A × List ℕ) ℕ
 or-refused None = Err 10
 or-refused (Some p) = Ok p
 

@@ -1,5 +1,10 @@
+ghost use Prim.Native.Nat.{ℕ, _≤_};
 ghost use Rattle.runfile.specs.Fields.{seen};
-ghost use Rattle.runfile.specs.Head.{holds-of, draft-of, head, reading, outcome};
+ghost use Rattle.runfile.specs.Head.{holds-of, draft-of, fields-of, head, reading, outcome};
+ghost use Rattle.runfile.specs.Writing.{Fields, file-of, told};
+ghost use Rattle.std.specs.declared.result.Result.the-variants.{Ok};
+ghost use lib.ListN.{length};
+ghost use mathlib.Core.List.{List};
 ghost use mathlib.Core.Path.{_≡_};
 use crate::field::byte;
 use crate::field::byte_or;
@@ -26,9 +31,11 @@ const HOLDS: u8 = 16;
 
 const FIRST_UNNAMED: u8 = 32;
 
-// The head of a run file and the bytes after it, or the refusal of a file that cannot be read.
+// The head of a run file and the bytes after it, or the refusal of a file that cannot be read. A head
+// that was written field by field reads as what was written.
 pub fn read_head(file: &[u8]) -> Result<(Head, &[u8]), Refusal>
-    ensures { λ r. ⌜ outcome r ≡ reading (now (file .entry)) ⌝ }
+    ensures value { λ r. ⌜ outcome r ≡ reading (now (file .entry)) ⌝ }
+    ensures written { λ r. ⌜ ((f : Fields) (rest : List ℕ) → now (file .entry) ≡ file-of f rest → length (now (file .entry)) ≤ 65536 → outcome r ≡ Ok (told f, rest)) ⌝ }
 {
     if file.len() > MOST_BYTES {
         return Err(Refusal::Unreadable);
@@ -46,6 +53,12 @@ fn head(bytes: &[u8]) -> Option<(Head, &[u8])>
     if map >= FIRST_UNNAMED {
         return None;
     }
+    fields(map, bytes)
+}
+
+fn fields(map: u8, bytes: &[u8]) -> Option<(Head, &[u8])>
+    ensures { λ r. ⌜ seen r ≡ fields-of map (now (bytes .entry)) ⌝ }
+{
     let (draft, bytes) = draft(map, bytes)?;
     let (holds, bytes) = holds(map, bytes)?;
     Some((Head { draft, holds }, bytes))
