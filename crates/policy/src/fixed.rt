@@ -56,5 +56,7 @@ pub impl Policy for Fixed as FixedPolicy {
     fn slot_passed(&mut self)
         ensures timing { λ _. ⌜ fixed (now (self .exit) .holds) ≡ later (fixed (now (self .entry) .holds)) ⌝ }
         ensures kept { λ _. ⌜ now (self .exit) ≡ now (self .entry) ⌝ }
-    {}
+    {
+        // The holds are the same for every slot.
+    }
 }

@@ -88,5 +88,7 @@ pub impl Policy for PerLine<'_> as PerLinePolicy {
     fn slot_passed(&mut self)
         ensures timing { λ _. ⌜ per-line (now (now (self .exit) .table)) (now (self .exit) .own .caps) ≡ later (per-line (now (now (self .entry) .table)) (now (self .entry) .own .caps)) ⌝ }
         ensures kept { λ _. ⌜ now (self .exit) ≡ now (self .entry) ⌝ }
-    {}
+    {
+        // The table is the same for every slot.
+    }
 }

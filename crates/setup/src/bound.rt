@@ -20,4 +20,6 @@ pub struct Cycles {
     count: u64,
 }
 
-pub mod counts;
+pub mod converting;
+pub mod counting;
+pub mod waiting;

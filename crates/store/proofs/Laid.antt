@@ -14,6 +14,8 @@ use Rattle.std.proofs.shelf.Lists.{length-set, getD-set-same, getD-set-other, e
 use Rattle.std.proofs.shelf.Tests.{cases-eq, cases-lt, eq-eqb, ne-eqb, eqb-true, cond-true, cond-false, cond-above, cond-below, cond-both}
 use Rattle.memory.specs.Words.{reading, storing, stored}
 use Rattle.memory.proofs.Answered.{reading-at, storing-at, storing-past, stored-at, stored-past}
+use Rattle.std.specs.Options.{valueOr}
+use Rattle.std.specs.declared.option.Option.the-variants.{Some, None}
 use Rattle.std.specs.declared.result.Result.the-variants.{Ok, Err}
 use Rattle.store.specs.declared.place.Place.{Place}
 use Rattle.store.specs.declared.place.Place.the-variants.{Free, Holds}
@@ -57,16 +59,13 @@ overlaid-free ws =
     (λ k h. let m : k % 16 < 16 = omega arith in ap (λ p. laid p k (getD ws k 0)) (getD-replicate 16 (k % 16) Free Free m))
 
 -- the word under a place
-pub laid-own : (p : Place) (line word w : ℕ) → p ≡ Holds line word → laid p line w ≡ word
-laid-own p line word w e = ap (λ q. laid q line w) e ∙ cond-true (eqb line line) word w (eq-eqb line line refl)
+laid-own : (p : Place) (line word w : ℕ) → p ≡ Holds line word → laid p line w ≡ word
+laid-own p line word w e = ap (λ q. laid q line w) e ∙ ap (λ o. valueOr o w) (cond-true (eqb line line) (Some word) None (eq-eqb line line refl))
 
-pub laid-held : (p : Place) (line n word w : ℕ) → p ≡ Holds line word → line ≡ n → laid p n w ≡ word
-laid-held p line n word w e s = ap (λ k. laid p k w) (sym s) ∙ laid-own p line word w e
+laid-other : (p : Place) (line n word w : ℕ) → p ≡ Holds line word → (line ≡ n → ⊥) → laid p n w ≡ w
+laid-other p line n word w e h = ap (λ q. laid q n w) e ∙ ap (λ o. valueOr o w) (cond-false (eqb line n) (Some word) None (ne-eqb line n h))
 
-pub laid-other : (p : Place) (line n word w : ℕ) → p ≡ Holds line word → (line ≡ n → ⊥) → laid p n w ≡ w
-laid-other p line n word w e h = ap (λ q. laid q n w) e ∙ cond-false (eqb line n) word w (ne-eqb line n h)
-
-pub laid-free : (p : Place) (n w : ℕ) → p ≡ Free → laid p n w ≡ w
+laid-free : (p : Place) (n w : ℕ) → p ≡ Free → laid p n w ≡ w
 laid-free p n w e = ap (λ q. laid q n w) e
 
 -- a line that its place has not is read from below

@@ -7,6 +7,9 @@ use lib.Dec.{ltb, eqb}
 use lib.ListN.{length, getD, set}
 use Rattle.memory.specs.Words.{stored}
 use Rattle.std.specs.Iters.{counting}
+use Rattle.std.specs.Options.{valueOr}
+use Rattle.std.specs.declared.option.Option.{Option}
+use Rattle.std.specs.declared.option.Option.the-variants.{Some, None}
 use Rattle.store.specs.declared.place.Place.{Place}
 use Rattle.store.specs.declared.place.Place.the-variants.{Free, Holds}
 
@@ -14,10 +17,14 @@ use Rattle.store.specs.declared.place.Place.the-variants.{Free, Holds}
 abbrev pub place-of : ℕ → ℕ
 place-of line = line % 16
 
+-- the word that a place holds of a line, if it does
+abbrev pub held-word : Place → ℕ → Option ℕ
+held-word Free line = None
+held-word (Holds held word) line = cond (eqb held line) (Some word) None
+
 -- the word of a line, where its place is as given and the memory below has w
 abbrev pub laid : Place → ℕ → ℕ → ℕ
-laid Free line w = w
-laid (Holds held word) line w = cond (eqb held line) word w
+laid p line w = valueOr (held-word p line) w
 
 -- what the store means: the words below, with the held words laid over them
 abbrev pub overlaid : List ℕ → List Place → List ℕ

@@ -5,6 +5,7 @@ ghost use lib.ListN.{length, getD, set, replicate};
 ghost use mathlib.Core.Path.{_≡_};
 use crate::LastLevelStore;
 use crate::place::Place;
+use crate::place::moving::take;
 use memory::Memory;
 
 impl<M: Memory> LastLevelStore<M> {
@@ -30,16 +31,12 @@ impl<M: Memory> LastLevelStore<M> {
         ensures count { λ _. ⌜ length (M·Memory .words (now (self .exit) .below)) ≡ length (M·Memory .words (now (self .entry) .below)) ⌝ }
         ensures places { λ _. ⌜ now (self .exit) .places ≡ set (now (self .entry) .places) i Free ⌝ }
     {
-        let place = self.places[i];
-        match place {
+        match take(&mut self.places, i) {
             Place::Free => 0,
-            Place::Holds { line, word } => {
-                self.places[i] = Place::Free;
-                match self.below.store(line, word) {
-                    Ok(()) => 1,
-                    Err(_) => 0,
-                }
-            }
+            Place::Holds { line, word } => match self.below.store(line, word) {
+                Ok(()) => 1,
+                Err(_) => 0,
+            },
         }
     }
 }

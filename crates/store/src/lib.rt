@@ -3,13 +3,14 @@
 ghost use Prim.Native.Nat.{ℕ, _≤_};
 ghost use Rattle.memory.specs.Words.{reading, storing, stored};
 ghost use Rattle.setup.specs.Refusals.{numbered};
-ghost use Rattle.store.specs.Overlay.{place-of, overlaid, Placed, displaced, below-after, places-after};
-ghost use Rattle.store.specs.declared.place.Place.the-variants.{Free};
+ghost use Rattle.store.specs.Overlay.{place-of, held-word, overlaid, Placed, displaced, below-after, places-after};
+ghost use Rattle.store.specs.declared.place.Place.the-variants.{Free, Holds};
 ghost use denote.Ref.{now};
-ghost use lib.ListN.{length, getD};
+ghost use lib.ListN.{length, getD, set};
 ghost use mathlib.Core.List.{List};
 ghost use mathlib.Core.Path.{_≡_};
 use crate::place::Place;
+use crate::place::moving::place_word;
 use memory::Memory;
 use setup::kind::Kind;
 use setup::refusal::Refusal;
@@ -31,6 +32,23 @@ pub struct LastLevelStore<M: Memory> {
 }
 
 impl<M: Memory> LastLevelStore<M> {
+    fn count_below(&self) -> usize
+        ensures { λ r. ⌜ r ≡ length (M·Memory .words (now (self .entry) .below)) ⌝ }
+    {
+        self.below.count()
+    }
+
+    // The word that a line's place holds of the line, if it does.
+    fn held(&self, line: usize) -> Option<u64>
+        ensures { λ r. ⌜ r ≡ held-word (getD (now (self .entry) .places) (place-of line) Free) line ⌝ }
+    {
+        let place = self.places[line % 16];
+        match place {
+            Place::Free => None,
+            Place::Holds { line: held, word } => { if held == line { Some(word) } else { None } }
+        }
+    }
+
     // Sends the word in a line's place below, unless it is the line's own.
     fn make_room(&mut self, line: usize)
         ensures below { λ _. ⌜ M·Memory .words (now (self .exit) .below) ≡ displaced (M·Memory .words (now (self .entry) .below)) (getD (now (self .entry) .places) (place-of line) Free) line ⌝ }
@@ -66,7 +84,7 @@ pub impl<M: Memory> Memory for LastLevelStore<M> as LastLevelStoreMemory {
         ensures value { λ r. ⌜ r ≡ length (overlaid (M·Memory .words (now (self .entry) .below)) (now (self .entry) .places)) ⌝ }
         ensures below { λ r. ⌜ r ≡ length (M·Memory .words (now (self .entry) .below)) ⌝ }
     {
-        self.below.count()
+        self.count_below()
     }
 
     fn read(&mut self, line: usize) -> Result<u64, Refusal>
@@ -76,19 +94,12 @@ pub impl<M: Memory> Memory for LastLevelStore<M> as LastLevelStoreMemory {
         ensures below { λ _. ⌜ M·Memory .words (now (self .exit) .below) ≡ M·Memory .words (now (self .entry) .below) ⌝ }
         ensures places { λ _. ⌜ now (self .exit) .places ≡ now (self .entry) .places ⌝ }
     {
-        if line >= self.below.count() {
+        if line >= self.count_below() {
             return Err(Refusal::PastMemory);
         }
-        let place = self.places[line % 16];
-        match place {
-            Place::Free => self.below.read(line),
-            Place::Holds { line: held, word } => {
-                if held == line {
-                    Ok(word)
-                } else {
-                    self.below.read(line)
-                }
-            }
+        match self.held(line) {
+            Some(word) => Ok(word),
+            None => self.below.read(line),
         }
     }
 
@@ -99,11 +110,11 @@ pub impl<M: Memory> Memory for LastLevelStore<M> as LastLevelStoreMemory {
         ensures below { λ _. ⌜ M·Memory .words (now (self .exit) .below) ≡ below-after (M·Memory .words (now (self .entry) .below)) (now (self .entry) .places) line ⌝ }
         ensures places { λ _. ⌜ now (self .exit) .places ≡ places-after (M·Memory .words (now (self .entry) .below)) (now (self .entry) .places) line word ⌝ }
     {
-        if line >= self.below.count() {
+        if line >= self.count_below() {
             return Err(Refusal::PastMemory);
         }
         self.make_room(line);
-        self.places[line % 16] = Place::Holds { line, word };
+        place_word(&mut self.places, line, word);
         Ok(())
     }
 }

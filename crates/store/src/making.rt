@@ -17,6 +17,13 @@ impl<M: Memory> LastLevelStore<M> {
         ensures below { λ r. ⌜ r .below ≡ below ⌝ }
         ensures places { λ r. ⌜ r .places ≡ replicate 16 Free ⌝ }
     {
+        Self::free_over(below)
+    }
+
+    fn free_over(below: M) -> Self
+        ensures below { λ r. ⌜ r .below ≡ below ⌝ }
+        ensures places { λ r. ⌜ r .places ≡ replicate 16 Free ⌝ }
+    {
         LastLevelStore {
             below,
             places: [Place::Free; 16],

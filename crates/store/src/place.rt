@@ -4,3 +4,5 @@ pub enum Place {
     Free,
     Holds { line: usize, word: u64 },
 }
+
+pub mod moving;

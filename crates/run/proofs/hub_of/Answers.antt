@@ -15,4 +15,4 @@ returns g c =
     ∙ ap (λ n. hub-line d n 3 1 (caps-of (c .of-policy .result .holds))) (c .over-memory .ensures .count (g .M·Memory·dict))
     ∙ ap (λ v. hub-line d count 3 1 (caps-of v)) (c .of-policy .ensures .holds))
     ∙ ap (λ r. of-draft r count holds) (c .in-Continue-setup .ensures tt)
-    ∙ ap (λ r. of-head r count) (c .in-Continue-head .ensures tt)
+    ∙ ap (λ r. of-head r count) (c .in-Continue-head .ensures tt .value)

@@ -3,4 +3,4 @@ use Rattle.store.proofs.Laid.{length-overlaid}
 use Rattle.store.proofs.LastLevelStoreMemory.count.Needs as need
 
 pub returns : need.returns
-returns g c = record { value = c .count .ensures ∙ sym (length-overlaid _ _); below = c .count .ensures }
+returns g c = record { value = c .count-below .ensures ∙ sym (length-overlaid _ _); below = c .count-below .ensures }

@@ -1,12 +1,14 @@
 use native.Mathlib.Omega.{arith}
 use mathlib.Core.Path.{refl, sym, ap, _∙_}
+use lib.ListN.{getD}
+use Rattle.std.specs.Options.{valueOr}
 use Rattle.memory.proofs.Answered.{reading-at, reading-past}
 use Rattle.store.specs.Overlay.{overlaid}
-use Rattle.store.proofs.Laid.{length-overlaid, getD-overlaid, reading-below, laid-held, laid-other, laid-free}
+use Rattle.store.proofs.Laid.{length-overlaid, getD-overlaid, reading-below}
 use Rattle.store.proofs.LastLevelStoreMemory.read.Needs as need
 
-pub returns-then-line-count : need.returns-then-line-count
-returns-then-line-count g c =
+pub returns-then-line-count-below : need.returns-then-line-count-below
+returns-then-line-count-below g c =
     let ws = g .M·Memory .words (c .args .self .now .below) in
     let ps = c .args .self .now .places in
     record {
@@ -17,40 +19,28 @@ returns-then-line-count g c =
       places = refl;
     }
 
-pub returns-in-Free : need.returns-in-Free
-returns-in-Free g c =
-    let ws = g .M·Memory .words (c .args .self .now .below) in
-    let ps = c .args .self .now .places in
-    record {
-      value = c .read .ensures .value ∙ reading-below ws ps _ (omega arith) (laid-free _ _ _ (c .in-Free .is));
-      same = ap (λ vs. overlaid vs ps) (c .read .ensures .same);
-      refused = λ h. absurd (omega (arith, length-overlaid ws ps));
-      below = c .read .ensures .same;
-      places = refl;
-    }
-
-pub returns-then-held-line : need.returns-then-held-line
-returns-then-held-line g c =
+pub returns-in-Some : need.returns-in-Some
+returns-in-Some g c =
     let ws = g .M·Memory .words (c .args .self .now .below) in
     let ps = c .args .self .now .places in
     record {
       value =
           reading-at (overlaid ws ps) _ _ (omega (arith, length-overlaid ws ps))
-          (sym (getD-overlaid ws ps (c .args .line) (omega arith) ∙ laid-held _ _ _ _ _ (c .in-Holds .is) (c .if-held-line .taken)));
+          (ap (λ o. valueOr o (getD ws (c .args .line) 0)) (c .in-Some .ensures tt) ∙ sym (getD-overlaid ws ps (c .args .line) (omega arith)));
       same = refl;
       refused = λ h. refl;
       below = refl;
       places = refl;
     }
 
-pub returns-else-held-line : need.returns-else-held-line
-returns-else-held-line g c =
+pub returns-in-None : need.returns-in-None
+returns-in-None g c =
     let ws = g .M·Memory .words (c .args .self .now .below) in
     let ps = c .args .self .now .places in
     record {
-      value = c .read-else-held-line .ensures .value ∙ reading-below ws ps _ (omega arith) (laid-other _ _ _ _ _ (c .in-Holds .is) (c .if-held-line .left));
-      same = ap (λ vs. overlaid vs ps) (c .read-else-held-line .ensures .same);
+      value = c .read .ensures .value ∙ reading-below ws ps _ (omega arith) (sym (ap (λ o. valueOr o (getD ws (c .args .line) 0)) (c .in-None .ensures tt)));
+      same = ap (λ vs. overlaid vs ps) (c .read .ensures .same);
       refused = λ h. absurd (omega (arith, length-overlaid ws ps));
-      below = c .read-else-held-line .ensures .same;
+      below = c .read .ensures .same;
       places = refl;
     }

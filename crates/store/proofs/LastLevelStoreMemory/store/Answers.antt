@@ -8,8 +8,8 @@ use Rattle.store.specs.declared.place.Place.the-variants.{Holds}
 use Rattle.store.proofs.Laid.{length-overlaid, overlaid-stored}
 use Rattle.store.proofs.LastLevelStoreMemory.store.Needs as need
 
-pub returns-then-line-count : need.returns-then-line-count
-returns-then-line-count g c =
+pub returns-then-line-count-below : need.returns-then-line-count-below
+returns-then-line-count-below g c =
     let ws = g .M·Memory .words (c .args .self .now .below) in
     let ps = c .args .self .now .places in
     record {
@@ -27,13 +27,14 @@ returns g c =
     let ps = s .places in
     let room = c .make-room .ensures in
     let put = Holds (c .args .line) (c .args .word) in
+    let placed = c .place-word .ensures ∙ ap (λ qs. set qs (place-of (c .args .line)) put) (room .places) in
     record {
       value = storing-at (overlaid ws ps) _ (omega (arith, length-overlaid ws ps));
       after =
-          ap (λ qs. overlaid (g .M·Memory .words (c .make-room .last .self .below)) (set qs (place-of (c .args .line)) put)) (room .places)
+          ap (λ qs. overlaid (g .M·Memory .words (c .make-room .last .self .below)) qs) placed
           ∙ ap (λ vs. overlaid vs (set ps (place-of (c .args .line)) put)) (room .below)
           ∙ overlaid-stored ws ps (c .args .line) (c .args .word) (omega arith) (s .sixteen) (s .fitting);
       refused = λ h. absurd (omega (arith, length-overlaid ws ps));
       below = room .below ∙ cond-below (c .args .line) (length ws) _ _ (omega arith);
-      places = ap (λ qs. set qs (place-of (c .args .line)) put) (room .places) ∙ cond-below (c .args .line) (length ws) _ _ (omega arith);
+      places = placed ∙ cond-below (c .args .line) (length ws) _ _ (omega arith);
     }
