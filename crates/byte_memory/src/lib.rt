@@ -1,6 +1,6 @@
 // Memory kind 2: the caller's buffer of bytes, eight for a word, highest first.
 ghost use Prim.Native.Nat.{ℕ, _+_, _*_, _/_, _<_, _≤_};
-ghost use Rattle.byte_memory.specs.Bytes.{word, put-word, words};
+ghost use Rattle.byte_memory.specs.Bytes.{word, digits, put-word, words};
 ghost use Rattle.memory.specs.Words.{reading, storing, stored};
 ghost use Rattle.setup.specs.Refusals.{numbered};
 ghost use denote.Ref.{now, name};
@@ -19,6 +19,12 @@ pub struct ByteTable<'a> {
 }
 
 impl ByteTable<'_> {
+    fn whole_words(&self) -> usize
+        ensures { λ r. ⌜ r ≡ length (now (now (self .entry) .bytes)) / 8 ⌝ }
+    {
+        self.bytes.len() / 8
+    }
+
     fn word(&self, line: usize) -> u64
         requires { ⌜ 8 * line + 8 ≤ length (now (now self .bytes)) ⌝ }
         ensures { λ r. ⌜ r ≡ word (now (now (self .entry) .bytes)) line ⌝ }
@@ -44,12 +50,18 @@ fn word_at(bytes: &[u8], line: usize) -> u64
     ])
 }
 
+fn eight_bytes(word: u64) -> [u8; 8]
+    ensures { λ r. ⌜ r ≡ digits word ⌝ }
+{
+    word.to_be_bytes()
+}
+
 fn put_word_at(bytes: &mut [u8], line: usize, word: u64)
     requires { ⌜ 8 * line + 8 ≤ length (now bytes) ⌝ }
     ensures { λ _. ⌜ now (bytes .exit) ≡ put-word (now (bytes .entry)) line word ⌝ }
 {
     let at = 8 * line;
-    let digits = word.to_be_bytes();
+    let digits = eight_bytes(word);
     bytes[at..at + 8].copy_from_slice(&digits);
 }
 
@@ -71,7 +83,7 @@ pub impl Memory for ByteTable<'_> as ByteTableMemory {
         ensures value { λ r. ⌜ r ≡ length (words (now (now (self .entry) .bytes))) ⌝ }
         ensures eighth { λ r. ⌜ r ≡ length (now (now (self .entry) .bytes)) / 8 ⌝ }
     {
-        self.bytes.len() / 8
+        self.whole_words()
     }
 
     fn read(&mut self, line: usize) -> Result<u64, Refusal>
@@ -80,7 +92,7 @@ pub impl Memory for ByteTable<'_> as ByteTableMemory {
         ensures refused { λ _. ⌜ (length (words (now (now (self .entry) .bytes))) ≤ line → now (self .exit) ≡ now (self .entry)) ⌝ }
         ensures kept { λ _. ⌜ now (self .exit) ≡ now (self .entry) ⌝ }
     {
-        if line < self.bytes.len() / 8 {
+        if line < self.whole_words() {
             Ok(self.word(line))
         } else {
             Err(Refusal::PastMemory)
@@ -94,7 +106,7 @@ pub impl Memory for ByteTable<'_> as ByteTableMemory {
         ensures bytes { λ _. ⌜ (line < length (now (now (self .entry) .bytes)) / 8 → now (now (self .exit) .bytes) ≡ put-word (now (now (self .entry) .bytes)) line word) ⌝ }
         ensures place { λ _. ⌜ name (now (self .exit) .bytes) ≡ name (now (self .entry) .bytes) ⌝ }
     {
-        if line < self.bytes.len() / 8 {
+        if line < self.whole_words() {
             put_word_at(self.bytes, line, word);
             Ok(())
         } else {

@@ -1,8 +1,6 @@
-ghost use Prim.Native.Nat.{_/_};
 ghost use Rattle.byte_memory.specs.Bytes.{words};
 ghost use Rattle.byte_memory.specs.contracts.ByteTableMemory.the-impl.{ghosts as meant};
 ghost use denote.Ref.{now};
-ghost use lib.ListN.{length};
 ghost use mathlib.Core.Path.{_≡_};
 use crate::ByteTable;
 
@@ -11,7 +9,6 @@ impl<'a> ByteTable<'a> {
     pub fn over(bytes: &'a mut [u8]) -> ByteTable<'a>
         ensures kind { λ _. ⌜ meant .kind ≡ 2 ⌝ }
         ensures words { λ r. ⌜ meant .words r ≡ words (now (bytes .entry)) ⌝ }
-        ensures count { λ r. ⌜ length (meant .words r) ≡ length (now (bytes .entry)) / 8 ⌝ }
         ensures bytes { λ r. ⌜ r .bytes ≡ bytes .entry ⌝ }
     {
         ByteTable { bytes }

@@ -52,6 +52,13 @@ alternating s =
       hold = λ k core holder line requester. number (in-turn s (s .at + k)) holder requester;
     }
 
+-- the set that rules now, where `at` lies within the two spells, and the schedule one slot on
+abbrev pub ruling : Schedule → FourHolds
+ruling s = cond (ltb (s .at) (s .first .slots)) (s .first .holds) (s .second .holds)
+
+abbrev pub advanced : Schedule → Schedule
+advanced s = record { first = s .first; second = s .second; at = (s .at + 1) % span s }
+
 -- a length of 0 counts as 1, and the first spell begins
 abbrev pub spell : FourHolds → ℕ → Spell
 spell holds slots = record { holds = holds; slots = max 1 slots }

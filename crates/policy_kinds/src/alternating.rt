@@ -1,6 +1,6 @@
 // Policy kind 3: two sets of four numbers that rule in turn.
 ghost use Prim.Native.Nat.{ℕ, _≤_, _<_};
-ghost use Rattle.policy_kinds.specs.Kinds.{alternating, span, SomeSpell};
+ghost use Rattle.policy_kinds.specs.Kinds.{alternating, ruling, advanced, span, SomeSpell};
 ghost use Rattle.policy_kinds.specs.Laws.{alternating-lawful};
 ghost use Rattle.policy.specs.Timing.{Timing, Lawful, later};
 ghost use Rattle.policy.specs.declared.class.Class.the-variants.{Critical, NonCritical};
@@ -9,6 +9,7 @@ ghost use mathlib.Core.Path.{_≡_};
 use crate::schedule::Schedule;
 use policy::Policy;
 use policy::class::Class;
+use policy::holds::FourHolds;
 use setup::bound::Caps;
 use setup::kind::Kind;
 
@@ -20,6 +21,27 @@ pub struct Alternating {
     ghost first: { SomeSpell (schedule .first) },
     ghost second: { SomeSpell (schedule .second) },
     ghost inside: { schedule .at < span schedule },
+}
+
+impl Alternating {
+    // The set that rules now.
+    fn ruling(&self) -> FourHolds
+        ensures { λ r. ⌜ r ≡ ruling (now (self .entry) .schedule) ⌝ }
+    {
+        if self.schedule.at < self.schedule.first.slots {
+            self.schedule.first.holds
+        } else {
+            self.schedule.second.holds
+        }
+    }
+
+    // One slot on, round the two spells.
+    fn advance(&mut self)
+        ensures { λ _. ⌜ now (self .exit) .schedule ≡ advanced (now (self .entry) .schedule) ⌝ }
+    {
+        let span = self.schedule.first.slots + self.schedule.second.slots;
+        self.schedule.at = (self.schedule.at + 1) % span;
+    }
 }
 
 pub impl Policy for Alternating as AlternatingPolicy {
@@ -57,17 +79,12 @@ pub impl Policy for Alternating as AlternatingPolicy {
         ensures same { λ _. ⌜ alternating (now (self .exit) .schedule) ≡ alternating (now (self .entry) .schedule) ⌝ }
         ensures kept { λ _. ⌜ now (self .exit) ≡ now (self .entry) ⌝ }
     {
-        if self.schedule.at < self.schedule.first.slots {
-            self.schedule.first.holds.pair(class)
-        } else {
-            self.schedule.second.holds.pair(class)
-        }
+        self.ruling().pair(class)
     }
 
     fn slot_passed(&mut self)
         ensures { λ _. ⌜ alternating (now (self .exit) .schedule) ≡ later (alternating (now (self .entry) .schedule)) ⌝ }
     {
-        let span = self.schedule.first.slots + self.schedule.second.slots;
-        self.schedule.at = (self.schedule.at + 1) % span;
+        self.advance();
     }
 }

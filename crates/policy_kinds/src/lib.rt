@@ -2,6 +2,6 @@
 
 pub mod alternating;
 pub mod capped;
-pub mod own_caps;
+mod own_caps;
 pub mod per_line;
-pub mod schedule;
+mod schedule;

@@ -13,7 +13,7 @@ returns c =
     let at = 8 * c .args .line in
     let bs = c .args .bytes .now in
     let k : at + 8 - at ≡ 8 = omega arith in
-    let e : c .copy-from-slice .last .self ≡ digits (c .args .word) = c .copy-from-slice .ensures .after ∙ c .to-be-bytes-digits .ensures in
+    let e : c .copy-from-slice .last .self ≡ digits (c .args .word) = c .copy-from-slice .ensures .after ∙ c .eight-bytes-digits .ensures in
     ap (λ n. putMid at n bs (c .copy-from-slice .last .self)) k
     ∙ ap (λ ys. putMid at 8 bs ys) e
     ∙ ap (λ zs. take at bs ++ (digits (c .args .word) ++ zs)) (drop-drop 8 at bs)

@@ -8,6 +8,13 @@ ghost use mathlib.Core.List.{[], _∷_, _++_};
 ghost use mathlib.Core.Path.{_≡_};
 use crate::text::Text;
 
+fn digit(n: u64) -> u8
+    requires { ⌜ n < 10 ⌝ }
+    ensures { λ r. ⌜ r ≡ 48 + n ⌝ }
+{
+    b'0' + n as u8
+}
+
 impl Text {
     pub fn empty() -> Text
         ensures shown { λ r. ⌜ shown r ≡ [] ⌝ }
@@ -45,10 +52,10 @@ impl Text {
         ensures len { λ _. ⌜ now (self .exit) .len ≡ now (self .entry) .len + length (decimal n) ⌝ }
     {
         if n < 10 {
-            self.put_byte(b'0' + n as u8);
+            self.put_byte(digit(n));
         } else {
             self.put_decimal(n / 10);
-            self.put_byte(b'0' + (n % 10) as u8);
+            self.put_byte(digit(n % 10));
         }
     }
 

@@ -37,6 +37,12 @@ pub fn read_head(file: &[u8]) -> Result<(Head, &[u8]), Refusal>
     ensures value { λ r. ⌜ outcome r ≡ reading (now (file .entry)) ⌝ }
     ensures written { λ r. ⌜ ((f : Fields) (rest : List ℕ) → now (file .entry) ≡ file-of f rest → length (now (file .entry)) ≤ 65536 → outcome r ≡ Ok (told f, rest)) ⌝ }
 {
+    head_of(file)
+}
+
+fn head_of(file: &[u8]) -> Result<(Head, &[u8]), Refusal>
+    ensures { λ r. ⌜ outcome r ≡ reading (now (file .entry)) ⌝ }
+{
     if file.len() > MOST_BYTES {
         return Err(Refusal::Unreadable);
     }

@@ -4,8 +4,8 @@ use Rattle.memory.proofs.Answered.{reading-at, reading-past}
 use Rattle.byte_memory.proofs.ByteWords.{length-words, getD-words}
 use Rattle.byte_memory.proofs.ByteTableMemory.read.Needs as need
 
-pub returns-then-line-self : need.returns-then-line-self
-returns-then-line-self c =
+pub returns-then-line-whole-words : need.returns-then-line-whole-words
+returns-then-line-whole-words c =
     let bs = c .args .self .now .bytes .now in
     record {
       value = reading-at _ _ _ (omega (arith, length-words bs)) (c .word .ensures ∙ sym (getD-words bs (c .args .line) (omega arith)));
@@ -14,6 +14,6 @@ returns-then-line-self c =
       kept = refl;
     }
 
-pub returns-else-line-self : need.returns-else-line-self
-returns-else-line-self c =
+pub returns-else-line-whole-words : need.returns-else-line-whole-words
+returns-else-line-whole-words c =
     record { value = reading-past _ _ (omega (arith, length-words (c .args .self .now .bytes .now))); same = refl; refused = λ h. refl; kept = refl }

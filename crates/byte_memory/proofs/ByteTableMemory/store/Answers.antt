@@ -5,8 +5,8 @@ use Rattle.memory.proofs.Answered.{storing-at, storing-past, stored-at, stored-
 use Rattle.byte_memory.proofs.ByteWords.{length-words, words-put}
 use Rattle.byte_memory.proofs.ByteTableMemory.store.Needs as need
 
-pub returns-then-line-self : need.returns-then-line-self
-returns-then-line-self c =
+pub returns-then-line-whole-words : need.returns-then-line-whole-words
+returns-then-line-whole-words c =
     let bs = c .args .self .now .bytes .now in
     record {
       value = storing-at (words bs) _ (omega (arith, length-words bs));
@@ -19,8 +19,8 @@ returns-then-line-self c =
       place = refl;
     }
 
-pub returns-else-line-self : need.returns-else-line-self
-returns-else-line-self c =
+pub returns-else-line-whole-words : need.returns-else-line-whole-words
+returns-else-line-whole-words c =
     let bs = c .args .self .now .bytes .now in
     record {
       value = storing-past (words bs) _ (omega (arith, length-words bs));
