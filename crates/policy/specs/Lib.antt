@@ -1,3 +1,4 @@
 pub mod Timing
 pub mod FourNumbers
 pub mod FixedLaw
+pub mod OwnCaps

@@ -11,6 +11,7 @@ use setup::kind::Kind;
 pub mod class;
 pub mod fixed;
 pub mod holds;
+pub mod own_caps;
 
 // A policy by its meaning, its timing, which obeys the law of policies. It refuses nothing.
 pub trait Policy {

@@ -6,7 +6,22 @@ use std::test::*;
 const UNREADABLE: &[u8] = b"NO 10\n";
 
 // A head with every field at its largest.
-const LARGEST: [u8; 14] = [0x1f, 8, 8, 32, 255, 255, 255, 255, 255, 255, 255, 255, 255, 255];
+const LARGEST: [u8; 14] = [
+    0x1f,
+    8,
+    8,
+    32,
+    255,
+    255,
+    255,
+    255,
+    255,
+    255,
+    255,
+    255,
+    255,
+    255,
+];
 
 // Whether the listing of a file, on 32 words, begins with this line.
 fn prints(file: &[u8], line: &[u8]) -> bool {
@@ -23,8 +38,14 @@ fn heads_that_are_accepted() -> Result<(), Fail> {
     check(prints(&[0], b"HUB 4 2 32 50 3 1 11 550\n")).note("all defaults")?;
     check(prints(&LARGEST, b"HUB 8 8 32 65535 3 1 524343 34362818505\n")).note("the largest")?;
     check(prints(&[0x0f, 1, 1, 1, 0, 1], b"HUB 1 1 1 1 3 1 4 4\n")).note("the smallest")?;
-    check(prints(&[0x10, 0, 0, 0, 0, 0, 0, 0, 0], b"HUB 4 2 32 50 3 1 5 250\n")).note("holds of 0")?;
-    check(prints(&[0x17, 2, 1, 1, 0, 1, 0, 2, 0, 2, 0, 1], b"HUB 2 1 1 50 3 1 2 100\n")).note("two cores")
+    check(prints(
+        &[0x10, 0, 0, 0, 0, 0, 0, 0, 0],
+        b"HUB 4 2 32 50 3 1 5 250\n",
+    )).note("holds of 0")?;
+    check(prints(
+        &[0x17, 2, 1, 1, 0, 1, 0, 2, 0, 2, 0, 1],
+        b"HUB 2 1 1 50 3 1 2 100\n",
+    )).note("two cores")
 }
 
 #[test]

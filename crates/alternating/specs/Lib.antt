@@ -1,0 +1,2 @@
+pub mod Alternation
+pub mod AlternationLaw

@@ -1,0 +1,2 @@
+pub mod PerLine
+pub mod PerLineLaw
