@@ -13,9 +13,10 @@ use Rattle.std.specs.declared.option.Option.the-variants.{Some, None}
 use Rattle.std.specs.declared.result.Result.{Result}
 use Rattle.std.specs.declared.result.Result.the-variants.{Ok, Err}
 use Rattle.std.specs.shelf.Digits.{number}
+use Rattle.policy.specs.declared.holds.Against.{Against}
 use Rattle.policy.specs.declared.holds.FourHolds.{FourHolds}
 use Rattle.runfile.specs.Fields.{Parsed, then, fixed, field, stands}
-use Rattle.runfile.specs.Head.{draft-of, holds-of, fields-of, head, or-refused, reading}
+use Rattle.runfile.specs.Head.{draft-of, against-of, holds-of, fields-of, head, or-refused, reading}
 use Rattle.runfile.specs.declared.head.Head.{Head}
 use Rattle.runfile.specs.Writing as writing
 use Rattle.runfile.specs.Writing.{two, one-byte, two-bytes, eight-bytes, map-of, map-byte, file-of, default-holds, told}
@@ -128,14 +129,18 @@ module _ (f : writing.Fields) where
       ∙ step _ _ _ _ (read-one (stands m 4) (f .lines) 32 _ (here .lines))
       ∙ step _ _ _ _ (read-two (stands m 8) (f .width) 50 _ (here .width))
 
+two-holds : (b : Bool) (c n : Option ℕ) (absent : Against) (rest : List ℕ) → b ≡ isSome c → b ≡ isSome n
+    → against-of b absent (two-bytes c ++ (two-bytes n ++ rest)) ≡ Some (record { critical = valueOr c (absent .critical); noncritical = valueOr n (absent .noncritical) }, rest)
+two-holds b c n absent rest hc hn =
+    step _ _ _ _ (read-two b c (absent .critical) _ hc)
+    ∙ step _ _ _ _ (read-two b n (absent .noncritical) _ hn)
+
 four-numbers : (map : ℕ) (a b c d : Option ℕ) (rest : List ℕ) → stands map 16 ≡ isSome a → stands map 16 ≡ isSome b → stands map 16 ≡ isSome c → stands map 16 ≡ isSome d
     → holds-of map (two-bytes a ++ (two-bytes b ++ (two-bytes c ++ (two-bytes d ++ rest))))
     ≡ Some (record { critical = record { critical = valueOr a 4; noncritical = valueOr b 8 }; noncritical = record { critical = valueOr c 2; noncritical = valueOr d 4 } }, rest)
 four-numbers map a b c d rest ha hb hc hd =
-    step _ _ _ _ (read-two (stands map 16) a 4 _ ha)
-    ∙ step _ _ _ _ (read-two (stands map 16) b 8 _ hb)
-    ∙ step _ _ _ _ (read-two (stands map 16) c 2 _ hc)
-    ∙ step _ _ _ _ (read-two (stands map 16) d 4 _ hd)
+    step _ _ _ _ (two-holds (stands map 16) a b (record { critical = 4; noncritical = 8 }) _ ha hb)
+    ∙ step _ _ _ _ (two-holds (stands map 16) c d (record { critical = 2; noncritical = 4 }) _ hc hd)
 
 four-holds : (map : ℕ) (o : Option FourHolds) (rest : List ℕ) → stands map 16 ≡ isSome o → holds-of map (eight-bytes o ++ rest) ≡ Some (valueOr o default-holds, rest)
 four-holds map None rest h = four-numbers map None None None None rest h h h h

@@ -1,6 +1,6 @@
 -- The head of a run file.
 use Prim.Native.Nat.{ℕ}
-use mathlib.Core.Bool.{cond}
+use mathlib.Core.Bool.{Bool, cond}
 use mathlib.Core.List.{List}
 use lib.Dec.{ltb, leb}
 use lib.ListN.{length}
@@ -8,6 +8,7 @@ use denote.Ref.{RefT}
 use Rattle.std.specs.declared.option.Option.the-variants.{Some, None}
 use Rattle.std.specs.declared.result.Result.{Result}
 use Rattle.std.specs.declared.result.Result.the-variants.{Ok, Err}
+use Rattle.policy.specs.declared.holds.Against.{Against}
 use Rattle.policy.specs.declared.holds.FourHolds.{FourHolds}
 use Rattle.setup.specs.Refusals.{number}
 use Rattle.setup.specs.declared.draft.Draft.{Draft}
@@ -24,14 +25,19 @@ draft-of map bs =
     then (field (stands map 8) 2 50 c) (λ width d.
     Some (record { cores = cores; critical = critical; lines = lines; width = width }, d)))))
 
--- the four holds of two bytes each, all present or none
+-- two holds of two bytes each, against critical and against non-critical requesters
+abbrev pub against-of : Bool → Against → List ℕ → Parsed Against
+against-of present absent bs =
+    then (field present 2 (absent .critical) bs) (λ critical a.
+    then (field present 2 (absent .noncritical) a) (λ noncritical b.
+    Some (record { critical = critical; noncritical = noncritical }, b)))
+
+-- those of critical and of non-critical holders, all present or none
 abbrev pub holds-of : ℕ → List ℕ → Parsed FourHolds
 holds-of map bs =
-    then (field (stands map 16) 2 4 bs) (λ cc a.
-    then (field (stands map 16) 2 8 a) (λ cn b.
-    then (field (stands map 16) 2 2 b) (λ nc c.
-    then (field (stands map 16) 2 4 c) (λ nn d.
-    Some (record { critical = record { critical = cc; noncritical = cn }; noncritical = record { critical = nc; noncritical = nn } }, d)))))
+    then (against-of (stands map 16) (record { critical = 4; noncritical = 8 }) bs) (λ critical a.
+    then (against-of (stands map 16) (record { critical = 2; noncritical = 4 }) a) (λ noncritical b.
+    Some (record { critical = critical; noncritical = noncritical }, b)))
 
 -- the fields, one after the other
 abbrev pub fields-of : ℕ → List ℕ → Parsed Head

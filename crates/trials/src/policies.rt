@@ -26,34 +26,38 @@ fn four(cc: u16, cn: u16, nc: u16, nn: u16) -> FourHolds {
     }
 }
 
-// The caps and the holds for now, checked against what they should be.
-fn expect<P: Policy>(
-    policy: &mut P,
-    line: usize,
-    caps: (u16, u16),
-    critical: (u16, u16),
-    noncritical: (u16, u16),
-) -> Result<(), Fail> {
-    let told = policy.caps();
-    check_eq((told.critical, told.noncritical), caps)?;
-    check_eq(policy.holds(0, Class::Critical, line), critical)?;
-    check_eq(policy.holds(7, Class::NonCritical, line), noncritical)
+fn has_caps<P: Policy>(policy: &mut P, critical: u16, noncritical: u16) -> bool {
+    let caps = policy.caps();
+    (caps.critical == critical) & (caps.noncritical == noncritical)
+}
+
+// The holds for now on a line, of critical and of non-critical holders.
+fn holds<P: Policy>(policy: &mut P, line: usize, expected: [u16; 4]) -> bool {
+    let (cc, cn) = policy.holds(0, Class::Critical, line);
+    let (nc, nn) = policy.holds(7, Class::NonCritical, line);
+    [cc, cn, nc, nn] == expected
+}
+
+fn holds_after_a_slot<P: Policy>(policy: &mut P, expected: [u16; 4]) -> bool {
+    policy.slot_passed();
+    holds(policy, 0, expected)
 }
 
 #[test]
 fn policies_have_their_kinds() -> Result<(), Fail> {
-    check_eq(<Fixed as Policy>::KIND.number, 1)?;
-    check_eq(<PerLine as Policy>::KIND.number, 2)?;
-    check_eq(<Alternating as Policy>::KIND.number, 3)?;
-    check_eq(<Capped<Fixed> as Policy>::KIND.number, 4)
+    let plain = (<Fixed as Policy>::KIND.number == 1) & (<PerLine as Policy>::KIND.number == 2);
+    check(
+        plain
+            & (<Alternating as Policy>::KIND.number == 3)
+            & (<Capped<Fixed> as Policy>::KIND.number == 4),
+    )
 }
 
 #[test]
 fn fixed_holds_stay() -> Result<(), Fail> {
     let mut policy = Fixed::of(four(0, 8, 2, 4));
-    expect(&mut policy, 0, (1, 2), (0, 8), (2, 4))?;
-    policy.slot_passed();
-    expect(&mut policy, 31, (1, 2), (0, 8), (2, 4))
+    let first = has_caps(&mut policy, 1, 2) & holds(&mut policy, 31, [0, 8, 2, 4]);
+    check(first & holds_after_a_slot(&mut policy, [0, 8, 2, 4]))
 }
 
 #[test]
@@ -66,21 +70,18 @@ fn holds_by_line_are_cut_to_the_caps() -> Result<(), Fail> {
             noncritical: 0,
         },
     );
-    expect(&mut policy, 0, (9, 1), (1, 2), (1, 4))?;
-    expect(&mut policy, 1, (9, 1), (9, 60), (1, 80))?;
-    expect(&mut policy, 2, (9, 1), (0, 0), (0, 0))
+    let whole = holds(&mut policy, 0, [1, 2, 1, 4]) & holds(&mut policy, 1, [9, 60, 1, 80]);
+    check(has_caps(&mut policy, 9, 1) & whole & holds(&mut policy, 2, [0, 0, 0, 0]))
 }
 
 #[test]
 fn two_sets_rule_in_turn() -> Result<(), Fail> {
     let mut policy = Alternating::of(four(1, 1, 1, 1), 2, four(5, 6, 7, 8), 0);
-    expect(&mut policy, 0, (5, 7), (1, 1), (1, 1))?;
-    policy.slot_passed();
-    expect(&mut policy, 0, (5, 7), (1, 1), (1, 1))?;
-    policy.slot_passed();
-    expect(&mut policy, 0, (5, 7), (5, 6), (7, 8))?;
-    policy.slot_passed();
-    expect(&mut policy, 0, (5, 7), (1, 1), (1, 1))
+    let first = has_caps(&mut policy, 5, 7)
+        & holds(&mut policy, 0, [1, 1, 1, 1])
+        & holds_after_a_slot(&mut policy, [1, 1, 1, 1]);
+    let second = holds_after_a_slot(&mut policy, [5, 6, 7, 8]);
+    check(first & second & holds_after_a_slot(&mut policy, [1, 1, 1, 1]))
 }
 
 #[test]
@@ -93,7 +94,6 @@ fn caps_of_its_own_over_two_sets() -> Result<(), Fail> {
             noncritical: 65535,
         },
     );
-    expect(&mut policy, 0, (3, 7), (1, 1), (1, 1))?;
-    policy.slot_passed();
-    expect(&mut policy, 0, (3, 7), (3, 6), (7, 8))
+    let first = has_caps(&mut policy, 3, 7) & holds(&mut policy, 0, [1, 1, 1, 1]);
+    check(first & holds_after_a_slot(&mut policy, [3, 6, 7, 8]))
 }

@@ -1,6 +1,6 @@
 ghost use Prim.Native.Nat.{ℕ, _≤_};
 ghost use Rattle.runfile.specs.Fields.{seen};
-ghost use Rattle.runfile.specs.Head.{holds-of, draft-of, fields-of, head, reading, outcome};
+ghost use Rattle.runfile.specs.Head.{against-of, holds-of, draft-of, fields-of, head, reading, outcome};
 ghost use Rattle.runfile.specs.Writing.{Fields, file-of, told};
 ghost use Rattle.std.specs.declared.result.Result.the-variants.{Ok};
 ghost use lib.ListN.{length};
@@ -30,6 +30,17 @@ const WIDTH: u8 = 8;
 const HOLDS: u8 = 16;
 
 const FIRST_UNNAMED: u8 = 32;
+
+// The holds of a head that has none.
+const CRITICAL_HOLDS: Against = Against {
+    critical: 4,
+    noncritical: 8,
+};
+
+const NONCRITICAL_HOLDS: Against = Against {
+    critical: 2,
+    noncritical: 4,
+};
 
 // The head of a run file and the bytes after it, or the refusal of a file that cannot be read. A head
 // that was written field by field reads as what was written.
@@ -90,19 +101,23 @@ fn holds(map: u8, bytes: &[u8]) -> Option<(FourHolds, &[u8])>
     ensures { λ r. ⌜ seen r ≡ holds-of map (now (bytes .entry)) ⌝ }
 {
     let present = map & HOLDS != 0;
-    let (cc, bytes) = two_bytes_or(present, 4, bytes)?;
-    let (cn, bytes) = two_bytes_or(present, 8, bytes)?;
-    let (nc, bytes) = two_bytes_or(present, 2, bytes)?;
-    let (nn, bytes) = two_bytes_or(present, 4, bytes)?;
+    let (critical, bytes) = against(present, CRITICAL_HOLDS, bytes)?;
+    let (noncritical, bytes) = against(present, NONCRITICAL_HOLDS, bytes)?;
     let holds = FourHolds {
-        critical: Against {
-            critical: cc,
-            noncritical: cn,
-        },
-        noncritical: Against {
-            critical: nc,
-            noncritical: nn,
-        },
+        critical,
+        noncritical,
     };
     Some((holds, bytes))
+}
+
+fn against(present: bool, absent: Against, bytes: &[u8]) -> Option<(Against, &[u8])>
+    ensures { λ r. ⌜ seen r ≡ against-of present absent (now (bytes .entry)) ⌝ }
+{
+    let (critical, bytes) = two_bytes_or(present, absent.critical, bytes)?;
+    let (noncritical, bytes) = two_bytes_or(present, absent.noncritical, bytes)?;
+    let against = Against {
+        critical,
+        noncritical,
+    };
+    Some((against, bytes))
 }
