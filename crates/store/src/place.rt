@@ -5,4 +5,4 @@ pub enum Place {
     Holds { line: usize, word: u64 },
 }
 
-pub mod moving;
+pub(crate) mod moving;
