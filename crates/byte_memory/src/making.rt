@@ -1,3 +1,4 @@
+// Making a memory of a caller's buffer.
 ghost use Rattle.byte_memory.specs.Bytes.{words};
 ghost use Rattle.byte_memory.specs.contracts.ByteTableMemory.the-impl.{ghosts as meant};
 ghost use denote.Ref.{now};

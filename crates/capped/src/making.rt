@@ -1,3 +1,4 @@
+// Making a policy over another one.
 ghost use Rattle.policy.specs.FourNumbers.{raised};
 ghost use Rattle.capped.specs.Capping.{capped};
 ghost use Rattle.capped.specs.contracts.CappedPolicy.the-impl.{ghosts as meant};

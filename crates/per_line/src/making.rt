@@ -1,3 +1,4 @@
+// Making a policy of a caller's table.
 ghost use Rattle.policy.specs.FourNumbers.{raised};
 ghost use Rattle.per_line.specs.PerLine.{per-line};
 ghost use Rattle.per_line.specs.contracts.PerLinePolicy.the-impl.{ghosts as meant};

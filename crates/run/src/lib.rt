@@ -21,8 +21,8 @@ use runfile::head::reading::read_head;
 use setup::checked::SetUp;
 use setup::checked::checking::check;
 use setup::refusal::Refusal;
-use store::LastLevelStore;
-use store::LastLevelStoreMemory;
+use store::last_level::LastLevelStore;
+use store::last_level::answering::LastLevelStoreMemory;
 
 // Writes the first line of the file's listing into the buffer, and answers its length. The hub would
 // stand on a last-level store over the bottom memory.

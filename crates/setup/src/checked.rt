@@ -1,3 +1,4 @@
+// The checked set-up.
 ghost use Prim.Native.Nat.{_≤_};
 use crate::draft::Draft;
 

@@ -1,3 +1,4 @@
+// Kind numbers.
 ghost use Prim.Native.Nat.{_≤_};
 
 // The number of a kind of memory or of timer policy, from 1 to 255.

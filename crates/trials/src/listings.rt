@@ -1,3 +1,4 @@
+// From run files to listings.
 use memory::word_table::WordTable;
 use memory::word_table::WordTableMemory;
 use run::report;

@@ -1,11 +1,12 @@
+// The three kinds of memory.
 use byte_memory::ByteTable;
 use byte_memory::ByteTableMemory;
 use memory::Memory;
 use memory::word_table::WordTable;
 use memory::word_table::WordTableMemory;
 use std::test::*;
-use store::LastLevelStore;
-use store::LastLevelStoreMemory;
+use store::last_level::LastLevelStore;
+use store::last_level::answering::LastLevelStoreMemory;
 
 fn reads<M: Memory>(memory: &mut M, line: usize, expected: u64) -> bool {
     match memory.read(line) {

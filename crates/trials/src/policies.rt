@@ -1,3 +1,4 @@
+// The four kinds of policy.
 use alternating::Alternating;
 use alternating::AlternatingPolicy;
 use capped::Capped;

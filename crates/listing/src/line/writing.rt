@@ -1,3 +1,4 @@
+// Writing a line into a caller's buffer.
 ghost use Prim.Native.Nat.{_≤_};
 ghost use Rattle.listing.specs.Lines.{text, hub-text, no-text, answer, after};
 ghost use Rattle.listing.specs.Texts.{shown};

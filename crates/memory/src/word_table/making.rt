@@ -1,3 +1,4 @@
+// Making a memory of a caller's table.
 ghost use Rattle.memory.specs.contracts.word_table.WordTableMemory.the-impl.{ghosts as meant};
 ghost use denote.Ref.{now};
 ghost use lib.ListN.{length};

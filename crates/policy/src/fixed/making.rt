@@ -1,3 +1,4 @@
+// Making a policy of four holds.
 ghost use Rattle.policy.specs.FourNumbers.{fixed};
 ghost use Rattle.policy.specs.contracts.fixed.FixedPolicy.the-impl.{ghosts as meant};
 ghost use mathlib.Core.Path.{_≡_};

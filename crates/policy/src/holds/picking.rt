@@ -1,3 +1,4 @@
+// Picking a holder's numbers out of four.
 ghost use Rattle.policy.specs.FourNumbers.{number, caps-of};
 ghost use Rattle.policy.specs.declared.class.Class.the-variants.{Critical, NonCritical};
 ghost use mathlib.Core.Path.{_≡_};

@@ -1,3 +1,4 @@
+// Raising caps, and cutting holds to them.
 ghost use Rattle.policy.specs.FourNumbers.{raised};
 ghost use Rattle.policy.specs.OwnCaps.{cut};
 ghost use Rattle.policy.specs.declared.class.Class.the-variants.{Critical, NonCritical};

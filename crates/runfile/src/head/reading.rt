@@ -1,3 +1,4 @@
+// Reading the head of a run file.
 ghost use Prim.Native.Nat.{ℕ, _≤_};
 ghost use Rattle.runfile.specs.Fields.{seen};
 ghost use Rattle.runfile.specs.Head.{against-of, holds-of, draft-of, fields-of, head, reading, outcome};

@@ -1,3 +1,4 @@
+// A count of slots, and its cycles.
 ghost use Rattle.setup.specs.Bound.{cycles};
 ghost use mathlib.Core.Path.{_≡_};
 use crate::bound::Cycles;

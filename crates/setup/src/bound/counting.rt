@@ -1,3 +1,4 @@
+// A count of cycles.
 ghost use mathlib.Core.Path.{_≡_};
 use crate::bound::Cycles;
 

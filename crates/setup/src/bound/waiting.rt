@@ -1,3 +1,4 @@
+// The bound of a critical wait.
 ghost use Rattle.setup.specs.Bound.{bound};
 ghost use mathlib.Core.Path.{_≡_};
 use crate::bound::Caps;

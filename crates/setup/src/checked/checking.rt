@@ -1,3 +1,4 @@
+// Checking a draft.
 ghost use Rattle.setup.specs.Limits.{outcome, checking};
 ghost use mathlib.Core.Path.{_≡_};
 use crate::checked::SetUp;

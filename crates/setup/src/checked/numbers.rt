@@ -1,3 +1,4 @@
+// The numbers of a checked set-up.
 ghost use Prim.Native.Nat.{_≤_};
 ghost use mathlib.Core.Path.{_≡_};
 use crate::checked::SetUp;

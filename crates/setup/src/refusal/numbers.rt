@@ -1,3 +1,4 @@
+// The numbers of the refusals.
 ghost use Rattle.setup.specs.Refusals.{number};
 ghost use mathlib.Core.Path.{_≡_};
 use crate::refusal::Refusal;

@@ -1,3 +1,4 @@
+// Words into and out of a place.
 ghost use Prim.Native.Nat.{_<_};
 ghost use Rattle.store.specs.Overlay.{place-of};
 ghost use Rattle.store.specs.declared.place.Place.the-variants.{Free, Holds};

@@ -3,7 +3,7 @@ use mathlib.Core.Path.{_≡_}
 use lib.ListN.{length, getD}
 use Rattle.store.specs.Overlay.{overlaid, held-in}
 use Rattle.store.specs.declared.place.Place.the-variants.{Free}
-use Rattle.store.proofs.LastLevelStore.clean.Given as given
+use Rattle.store.proofs.last_level.LastLevelStore.clean.Given as given
 
 abbrev pub Inv-loop-i : given.InvT-loop-i
 Inv-loop-i g l =

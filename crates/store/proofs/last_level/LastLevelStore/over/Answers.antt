@@ -2,7 +2,7 @@ use mathlib.Core.Path.{_≡_, refl, ap, _∙_}
 use lib.ListN.{length}
 use Rattle.store.specs.Overlay.{overlaid}
 use Rattle.store.proofs.Laid.{overlaid-free}
-use Rattle.store.proofs.LastLevelStore.over.Needs as need
+use Rattle.store.proofs.last_level.LastLevelStore.over.Needs as need
 
 pub returns : need.returns
 returns g c =

@@ -1,9 +1,10 @@
-ghost use Rattle.store.specs.contracts.LastLevelStoreMemory.the-impl.{ghosts as meant};
+// Making a store over a memory.
+ghost use Rattle.store.specs.contracts.last_level.answering.LastLevelStoreMemory.the-impl.{ghosts as meant};
 ghost use Rattle.store.specs.declared.place.Place.the-variants.{Free};
 ghost use lib.ListN.{length, replicate};
 ghost use mathlib.Core.Path.{_≡_};
 ghost use mir.Syntax.{Dict};
-use crate::LastLevelStore;
+use crate::last_level::LastLevelStore;
 use crate::place::Place;
 use memory::Memory;
 

@@ -6,7 +6,7 @@ use Rattle.memory.proofs.Answered.{storing-at, storing-past, stored-past}
 use Rattle.store.specs.Overlay.{place-of, overlaid}
 use Rattle.store.specs.declared.place.Place.the-variants.{Holds}
 use Rattle.store.proofs.Laid.{length-overlaid, overlaid-stored}
-use Rattle.store.proofs.LastLevelStoreMemory.store.Needs as need
+use Rattle.store.proofs.last_level.answering.LastLevelStoreMemory.store.Needs as need
 
 pub returns-then-line-count-below : need.returns-then-line-count-below
 returns-then-line-count-below g c =

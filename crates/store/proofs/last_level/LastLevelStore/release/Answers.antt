@@ -5,7 +5,7 @@ use Rattle.std.proofs.shelf.Lists.{set-getD}
 use Rattle.store.specs.Overlay.{held, overlaid}
 use Rattle.store.specs.declared.place.Place.the-variants.{Free, Holds}
 use Rattle.store.proofs.Laid.{overlaid-release, held-taken, held-refused, length-stored}
-use Rattle.store.proofs.LastLevelStore.release.Needs as need
+use Rattle.store.proofs.last_level.LastLevelStore.release.Needs as need
 
 pub returns-in-Free : need.returns-in-Free
 returns-in-Free g c =

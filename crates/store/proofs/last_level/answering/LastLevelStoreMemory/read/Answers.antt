@@ -5,7 +5,7 @@ use Rattle.std.specs.Options.{valueOr}
 use Rattle.memory.proofs.Answered.{reading-at, reading-past}
 use Rattle.store.specs.Overlay.{overlaid}
 use Rattle.store.proofs.Laid.{length-overlaid, getD-overlaid, reading-below}
-use Rattle.store.proofs.LastLevelStoreMemory.read.Needs as need
+use Rattle.store.proofs.last_level.answering.LastLevelStoreMemory.read.Needs as need
 
 pub returns-then-line-count-below : need.returns-then-line-count-below
 returns-then-line-count-below g c =

@@ -10,7 +10,7 @@ use Rattle.store.specs.Overlay.{held, held-in, overlaid}
 use Rattle.store.specs.declared.place.Place.{Place}
 use Rattle.store.specs.declared.place.Place.the-variants.{Free}
 use Rattle.store.proofs.Laid.{held-more, held-most, all-free, overlaid-free}
-use Rattle.store.proofs.LastLevelStore.clean.Needs as need
+use Rattle.store.proofs.last_level.LastLevelStore.clean.Needs as need
 
 pub add-stored : need.add-stored
 add-stored g c =
