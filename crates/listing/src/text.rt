@@ -2,7 +2,7 @@
 ghost use Prim.Native.Nat.{_≤_};
 
 #[derive(Clone, Copy)]
-pub struct Text {
+pub(crate) struct Text {
     bytes: [u8; 64],
     len: usize,
     ghost within: { len ≤ 64 },

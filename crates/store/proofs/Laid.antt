@@ -16,7 +16,12 @@ use Rattle.memory.specs.Words.{reading, storing, stored}
 use Rattle.memory.proofs.Answered.{reading-at, storing-at, storing-past, stored-at, stored-past}
 use Rattle.std.specs.Options.{valueOr}
 use Rattle.std.specs.declared.option.Option.the-variants.{Some, None}
+use Rattle.std.specs.declared.result.Result.{Result}
 use Rattle.std.specs.declared.result.Result.the-variants.{Ok, Err}
+use Rattle.std.specs.Results.{isOk}
+use mir.Val.{boolByte}
+use Rattle.setup.specs.Refusals.{numbered}
+use Rattle.setup.specs.declared.refusal.Refusal.{Refusal}
 use Rattle.store.specs.declared.place.Place.{Place}
 use Rattle.store.specs.declared.place.Place.the-variants.{Free, Holds}
 use Rattle.store.specs.Overlay.{laid, overlaid, fitting, Placed, displaced, held, held-in}
@@ -171,15 +176,13 @@ held-most count Free = omega arith
 held-most count (Holds line w) = cond-both (ltb line count) 1 0 (λ n. n ≤ 1) (λ _. omega arith) (λ _. omega arith)
 
 -- a place's word counts exactly where the memory below took it
-pub held-taken : (ws : List ℕ) (p : Place) (line word : ℕ) → p ≡ Holds line word → Ok tt ≡ storing ws line → 1 ≡ held (length ws) p
-held-taken ws p line word e s =
+pub held-taken : (ws : List ℕ) (p : Place) (line word : ℕ) (r : Result Unit Refusal) → p ≡ Holds line word → numbered r ≡ storing ws line → boolByte (isOk r) ≡ held (length ws) p
+held-taken ws p line word (Ok x) e s =
     ⊎-elim
     (λ (h : line < length ws). cond-below line (length ws) 1 0 h ∙ sym (ap (held (length ws)) e))
     (λ (h : length ws ≤ line). absurd (let z : _≡_ {A = ℕ} 0 1 = cc (storing-past ws line h) in omega arith))
     (cases-lt line (length ws))
-
-pub held-refused : (ws : List ℕ) (p : Place) (line word n : ℕ) → p ≡ Holds line word → Err n ≡ storing ws line → 0 ≡ held (length ws) p
-held-refused ws p line word n e s =
+held-taken ws p line word (Err x) e s =
     ⊎-elim
     (λ (h : line < length ws). absurd (let z : _≡_ {A = ℕ} 0 1 = cc (storing-at ws line h) in omega arith))
     (λ (h : length ws ≤ line). cond-above line (length ws) 1 0 0 h refl ∙ sym (ap (held (length ws)) e))

@@ -16,7 +16,7 @@ fn digit(n: u64) -> u8
 }
 
 impl Text {
-    pub fn empty() -> Text
+    pub(crate) fn empty() -> Text
         ensures shown { λ r. ⌜ shown r ≡ [] ⌝ }
         ensures len { λ r. ⌜ r .len ≡ 0 ⌝ }
     {
@@ -26,7 +26,7 @@ impl Text {
         }
     }
 
-    pub fn put_byte(&mut self, byte: u8)
+    pub(crate) fn put_byte(&mut self, byte: u8)
         requires { ⌜ now self .len < 64 ⌝ }
         ensures shown { λ _. ⌜ shown (now (self .exit)) ≡ shown (now (self .entry)) ++ byte ∷ [] ⌝ }
         ensures len { λ _. ⌜ now (self .exit) .len ≡ now (self .entry) .len + 1 ⌝ }
@@ -35,7 +35,7 @@ impl Text {
         self.len += 1;
     }
 
-    pub fn put_word(&mut self, word: &[u8])
+    pub(crate) fn put_word(&mut self, word: &[u8])
         requires { ⌜ now self .len + length (now word) ≤ 64 ⌝ }
         ensures shown { λ _. ⌜ shown (now (self .exit)) ≡ shown (now (self .entry)) ++ now (word .entry) ⌝ }
         ensures len { λ _. ⌜ now (self .exit) .len ≡ now (self .entry) .len + length (now (word .entry)) ⌝ }
@@ -68,7 +68,7 @@ impl Text {
         self.put_decimal(n);
     }
 
-    pub fn put_u8(&mut self, n: u8)
+    pub(crate) fn put_u8(&mut self, n: u8)
         requires { ⌜ now self .len + 4 ≤ 64 ⌝ }
         ensures shown { λ _. ⌜ shown (now (self .exit)) ≡ shown (now (self .entry)) ++ spaced n ⌝ }
         ensures len { λ _. ⌜ now (self .exit) .len ≤ now (self .entry) .len + 4 ⌝ }
@@ -76,7 +76,7 @@ impl Text {
         self.put_number(u64::from(n));
     }
 
-    pub fn put_u16(&mut self, n: u16)
+    pub(crate) fn put_u16(&mut self, n: u16)
         requires { ⌜ now self .len + 6 ≤ 64 ⌝ }
         ensures shown { λ _. ⌜ shown (now (self .exit)) ≡ shown (now (self .entry)) ++ spaced n ⌝ }
         ensures len { λ _. ⌜ now (self .exit) .len ≤ now (self .entry) .len + 6 ⌝ }
@@ -84,7 +84,7 @@ impl Text {
         self.put_number(u64::from(n));
     }
 
-    pub fn put_u32(&mut self, n: u32)
+    pub(crate) fn put_u32(&mut self, n: u32)
         requires { ⌜ now self .len + 11 ≤ 64 ⌝ }
         ensures shown { λ _. ⌜ shown (now (self .exit)) ≡ shown (now (self .entry)) ++ spaced n ⌝ }
         ensures len { λ _. ⌜ now (self .exit) .len ≤ now (self .entry) .len + 11 ⌝ }
@@ -92,7 +92,7 @@ impl Text {
         self.put_number(u64::from(n));
     }
 
-    pub fn put_u64(&mut self, n: u64)
+    pub(crate) fn put_u64(&mut self, n: u64)
         requires { ⌜ now self .len + 21 ≤ 64 ⌝ }
         ensures shown { λ _. ⌜ shown (now (self .exit)) ≡ shown (now (self .entry)) ++ spaced n ⌝ }
         ensures len { λ _. ⌜ now (self .exit) .len ≤ now (self .entry) .len + 21 ⌝ }
@@ -100,7 +100,7 @@ impl Text {
         self.put_number(n);
     }
 
-    pub fn written(&self) -> &[u8]
+    pub(crate) fn written(&self) -> &[u8]
         ensures value { λ r. ⌜ now r ≡ shown (now (self .entry)) ⌝ }
         ensures few { λ r. ⌜ length (now r) ≤ 64 ⌝ }
     {

@@ -35,10 +35,7 @@ impl<M: Memory> LastLevelStore<M> {
     {
         match take(&mut self.places, i) {
             Place::Free => 0,
-            Place::Holds { line, word } => match self.below.store(line, word) {
-                Ok(()) => 1,
-                Err(_) => 0,
-            },
+            Place::Holds { line, word } => u32::from(self.below.store(line, word).is_ok()),
         }
     }
 }

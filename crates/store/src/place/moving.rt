@@ -7,7 +7,7 @@ ghost use mathlib.Core.Path.{_≡_};
 use crate::place::Place;
 
 // Puts a line's word into its place.
-pub fn place_word(places: &mut [Place], line: usize, word: u64)
+pub(crate) fn place_word(places: &mut [Place], line: usize, word: u64)
     requires { ⌜ length (now places) ≡ 16 ⌝ }
     ensures { λ _. ⌜ now (places .exit) ≡ set (now (places .entry)) (place-of line) (Holds line word) ⌝ }
 {
@@ -15,7 +15,7 @@ pub fn place_word(places: &mut [Place], line: usize, word: u64)
 }
 
 // Takes what a place held, and leaves it free.
-pub fn take(places: &mut [Place], i: usize) -> Place
+pub(crate) fn take(places: &mut [Place], i: usize) -> Place
     requires { ⌜ i < length (now places) ⌝ }
     ensures value { λ r. ⌜ r ≡ getD (now (places .entry)) i Free ⌝ }
     ensures places { λ _. ⌜ now (places .exit) ≡ set (now (places .entry)) i Free ⌝ }
