@@ -1,5 +1,4 @@
 // Making an alternating policy.
-ghost use Prim.Native.Nat.{max};
 ghost use Rattle.alternating.specs.Alternation.{alternating, spell, schedule};
 ghost use Rattle.alternating.specs.contracts.AlternatingPolicy.the-impl.{ghosts as meant};
 ghost use mathlib.Core.Path.{_≡_};

@@ -1,6 +1,6 @@
 // Policy kind 1: four numbers for every slot, core and line.
 ghost use Prim.Native.Nat.{ℕ, _≤_};
-ghost use Rattle.policy.specs.FourNumbers.{number, caps-of, fixed, FewHolds};
+ghost use Rattle.policy.specs.FourNumbers.{fixed, FewHolds};
 ghost use Rattle.policy.specs.FixedLaw.{fixed-lawful};
 ghost use Rattle.policy.specs.Timing.{Timing, Lawful, later};
 ghost use Rattle.policy.specs.declared.class.Class.the-variants.{Critical, NonCritical};

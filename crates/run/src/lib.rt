@@ -2,7 +2,6 @@
 // the file's head asks for, with the bound of a critical wait, or the refusal.
 ghost use Prim.Native.Nat.{_≤_};
 ghost use Rattle.listing.specs.Lines.{answer, after};
-ghost use Rattle.policy.specs.Timing.{Timing};
 ghost use Rattle.run.specs.FirstLine.{hub-line, hub-of, first-line};
 ghost use Rattle.setup.specs.Refusals.{numbered};
 ghost use Rattle.std.specs.Results.{isOk};
