@@ -9,7 +9,7 @@ use Rattle.policy.specs.Timing.{Timing}
 use Rattle.alternating.specs.declared.schedule.Schedule.{Schedule}
 use Rattle.alternating.specs.declared.schedule.Spell.{Spell}
 
--- each cap is the larger of two
+-- the larger caps of two pairs
 abbrev pub larger : Caps → Caps → Caps
 larger a b = record { critical = max (a .critical) (b .critical); noncritical = max (a .noncritical) (b .noncritical) }
 
@@ -34,7 +34,7 @@ ruling s = cond (ltb (s .at) (s .first .slots)) (s .first .holds) (s .second .ho
 abbrev pub advanced : Schedule → Schedule
 advanced s = record { first = s .first; second = s .second; at = (s .at + 1) % span s }
 
--- a length of 0 counts as 1, and the first spell begins
+-- spells have at least one slot, and the first begins
 abbrev pub spell : FourHolds → ℕ → Spell
 spell holds slots = record { holds = holds; slots = max 1 slots }
 

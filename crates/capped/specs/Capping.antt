@@ -4,7 +4,7 @@ use Rattle.setup.specs.declared.bound.Caps.{Caps}
 use Rattle.policy.specs.OwnCaps.{cut}
 use Rattle.policy.specs.Timing.{Timing}
 
--- each cap is the smaller of two
+-- the smaller caps of two pairs
 abbrev pub smaller : Caps → Caps → Caps
 smaller a b = record { critical = min (a .critical) (b .critical); noncritical = min (a .noncritical) (b .noncritical) }
 

@@ -8,7 +8,7 @@ use setup::refusal::Refusal;
 pub struct HubLine {
     pub cores: u8,
     pub critical: u8,
-    // The lines that the hub serves: the smaller of the set-up's and the memory's.
+    // The lines that the hub serves: as many as the set-up says and the memory has.
     pub lines: u8,
     pub width: u16,
     // The kind numbers of memory and policy.

@@ -1,4 +1,4 @@
--- A memory means a list of 64-bit words, one for each line.
+-- Reading and storing, on the list of words that a memory means.
 use Prim.Native.Nat.{ℕ}
 use mathlib.Core.Bool.{cond}
 use mathlib.Core.List.{List}

@@ -11,8 +11,8 @@ use setup::refusal::Refusal;
 
 pub mod word_table;
 
-// A memory by its meaning, the list of its words. A line at or above the count is refused, and no
-// other; a refusal leaves the memory as it was, to the last bit of its representation.
+// A memory by its meaning, the list of its words. Refused are just the lines that it does not have; a
+// refusal leaves the memory as it was, to the last bit of its representation.
 pub trait Memory {
     // The number of this kind of memory. Clauses cite it as `kind`.
     const KIND: Kind;

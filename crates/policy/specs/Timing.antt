@@ -1,4 +1,4 @@
--- What a timer policy means: two caps and a timetable.
+-- The meaning of timer policies: caps, a timetable, and the law that ties them.
 use Prim.Native.Nat.{ℕ, _+_, _≤_}
 use Rattle.setup.specs.declared.bound.Caps.{Caps}
 use Rattle.policy.specs.declared.class.Class.{Class}

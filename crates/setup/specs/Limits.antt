@@ -1,4 +1,4 @@
--- The limits of a set-up, in the order in which they are put.
+-- The limits of a set-up, and which of them decides a refusal.
 use Prim.Native.Nat.{ℕ}
 use mathlib.Core.Bool.{Bool, cond, _&&_}
 use lib.Dec.{leb}

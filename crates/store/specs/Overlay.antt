@@ -26,7 +26,7 @@ held-word (Holds held word) line = cond (eqb held line) (Some word) None
 abbrev pub laid : Place → ℕ → ℕ → ℕ
 laid p line w = valueOr (held-word p line) w
 
--- what the store means: the words below, with the held words laid over them
+-- what the store means: at each line the held word, or else the word below
 abbrev pub overlaid : List ℕ → List Place → List ℕ
 overlaid ws ps = map (λ line. laid (getD ps (place-of line) Free) line (getD ws line 0)) (counting 0 (length ws))
 

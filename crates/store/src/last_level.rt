@@ -1,5 +1,5 @@
-// Sixteen places over a memory below. Line n uses place n mod 16. Only a store to a line takes its
-// place; the word that was there goes below.
+// Sixteen places over a memory below; a line's number modulo 16 is that of its place. A place is taken
+// by a store to a line, and the word that was there goes below.
 ghost use Rattle.store.specs.Overlay.{Placed};
 ghost use lib.ListN.{length};
 ghost use mathlib.Core.Path.{_≡_};

@@ -11,7 +11,7 @@ use crate::place::moving::take;
 use memory::Memory;
 
 impl<M: Memory> LastLevelStore<M> {
-    // Stores every held word below, frees the places, and answers how many words it stored.
+    // Sends all held words below, so that all places are free, and answers how many there were.
     pub fn clean(&mut self) -> u32
         ensures value { λ r. ⌜ r ≡ held-in (length (words-below (M·Memory .words) (now (self .entry)))) (now (self .entry) .places) 16 ⌝ }
         ensures meaning { λ _. ⌜ words-of (M·Memory .words) (now (self .exit)) ≡ words-of (M·Memory .words) (now (self .entry)) ⌝ }
