@@ -7,11 +7,14 @@ use std::io;
 use std::io::Read;
 use std::io::Stdout;
 use std::io::Write;
+use store::last_level::LastLevelStore;
+use store::last_level::answering::LastLevelStoreMemory;
 
 fn print_listing(file: &[u8], out: &mut Stdout) -> io::Result<()> {
     let mut words = [0; 32];
     let mut line = [0; 64];
-    let Ok(n) = report(file, WordTable::over(&mut words), &mut line) else {
+    let memory = LastLevelStore::over(WordTable::over(&mut words));
+    let Ok(n) = report(file, &memory, &mut line) else {
         unreachable()
     };
     out.write_all(&line[0..n])

@@ -5,6 +5,8 @@ use run::report;
 use std::io;
 use std::io::Read;
 use std::io::Write;
+use store::last_level::LastLevelStore;
+use store::last_level::answering::LastLevelStoreMemory;
 
 fn main(rt: LibcRuntime) -> io::Result<()> {
     // One byte more than a run file may have, so that a longer file shows.
@@ -12,7 +14,8 @@ fn main(rt: LibcRuntime) -> io::Result<()> {
     rt.stdin().take(65537).read_to_end(&mut file)?;
     let mut words = [0; 32];
     let mut line = [0; 64];
-    let Ok(n) = report(&file, WordTable::over(&mut words), &mut line) else {
+    let memory = LastLevelStore::over(WordTable::over(&mut words));
+    let Ok(n) = report(&file, &memory, &mut line) else {
         unreachable()
     };
     let mut out = rt.stdout();

@@ -28,22 +28,22 @@ hub-line d count memory policy caps =
       cycles = record { count = cycles (d .width) (bound (d .critical) caps) };
     }
 
--- a hub on a last-level store and on four fixed holds
-abbrev pub of-draft : Result Draft ℕ → ℕ → FourHolds → Result HubLine ℕ
-of-draft (Err n) count holds = Err n
-of-draft (Ok d) count holds = Ok (hub-line d count 3 1 (caps-of holds))
+-- a hub on four fixed holds, policy kind 1, and on a memory of a count and a kind
+abbrev of-draft : Result Draft ℕ → ℕ → ℕ → FourHolds → Result HubLine ℕ
+of-draft (Err n) count memory holds = Err n
+of-draft (Ok d) count memory holds = Ok (hub-line d count memory 1 (caps-of holds))
 
-abbrev pub of-head : Result (Head × List ℕ) ℕ → ℕ → Result HubLine ℕ
-of-head (Err n) count = Err n
-of-head (Ok p) count = of-draft (checking (p .0 .draft)) count (p .0 .holds)
+abbrev of-head : Result (Head × List ℕ) ℕ → ℕ → ℕ → Result HubLine ℕ
+of-head (Err n) count memory = Err n
+of-head (Ok p) count memory = of-draft (checking (p .0 .draft)) count memory (p .0 .holds)
 
--- the hub that a file asks for on a bottom memory of that count, or a refusal's number
-abbrev pub hub-of : List ℕ → ℕ → Result HubLine ℕ
-hub-of file count = of-head (reading file) count
+-- the hub that a file asks for on such a memory, or a refusal's number
+abbrev pub hub-of : List ℕ → ℕ → ℕ → Result HubLine ℕ
+hub-of file count memory = of-head (reading file) count memory
 
 abbrev line-text : Result HubLine ℕ → List ℕ
 line-text (Err n) = no-text n
 line-text (Ok h) = hub-text h
 
-abbrev pub first-line : List ℕ → ℕ → List ℕ
-first-line file count = line-text (hub-of file count)
+abbrev pub first-line : List ℕ → ℕ → ℕ → List ℕ
+first-line file count memory = line-text (hub-of file count memory)

@@ -20,32 +20,29 @@ use runfile::head::reading::read_head;
 use setup::checked::SetUp;
 use setup::checked::checking::check;
 use setup::refusal::Refusal;
-use store::last_level::LastLevelStore;
-use store::last_level::answering::LastLevelStoreMemory;
 
 // Writes the first line of the file's listing into the buffer, and answers its length. The hub would
-// stand on a last-level store over the bottom memory.
-pub fn report<M: Memory + Drop>(file: &[u8], bottom: M, out: &mut [u8]) -> Result<usize, Refusal>
-    ensures value { λ r. ⌜ numbered r ≡ answer (now (out .entry)) (first-line (now (file .entry)) (length (M·Memory .words bottom))) ⌝ }
-    ensures after { λ _. ⌜ now (out .exit) ≡ after (now (out .entry)) (first-line (now (file .entry)) (length (M·Memory .words bottom))) ⌝ }
-    ensures placed { λ r. ⌜ made r (λ n. (n ≤ length (now (out .exit))) × (take n (now (out .exit)) ≡ first-line (now (file .entry)) (length (M·Memory .words bottom)))) ⌝ }
+// stand on this memory, which is only looked at.
+pub fn report<M: Memory>(file: &[u8], memory: &M, out: &mut [u8]) -> Result<usize, Refusal>
+    ensures value { λ r. ⌜ numbered r ≡ answer (now (out .entry)) (first-line (now (file .entry)) (length (M·Memory .words (now (memory .entry)))) (M·Memory .kind)) ⌝ }
+    ensures after { λ _. ⌜ now (out .exit) ≡ after (now (out .entry)) (first-line (now (file .entry)) (length (M·Memory .words (now (memory .entry)))) (M·Memory .kind)) ⌝ }
+    ensures placed { λ r. ⌜ made r (λ n. (n ≤ length (now (out .exit))) × (take n (now (out .exit)) ≡ first-line (now (file .entry)) (length (M·Memory .words (now (memory .entry)))) (M·Memory .kind))) ⌝ }
     ensures succeeds { λ r. ⌜ (64 ≤ length (now (out .entry)) → isOk r ≡ true) ⌝ }
 {
-    let line = match hub_of(file, bottom) {
+    let line = match hub_of(file, memory) {
         Ok(hub) => Line::Hub(hub),
         Err(refusal) => Line::No(refusal),
     };
     write_line(out, line)
 }
 
-fn hub_of<M: Memory + Drop>(file: &[u8], bottom: M) -> Result<HubLine, Refusal>
-    ensures { λ r. ⌜ numbered r ≡ hub-of (now (file .entry)) (length (M·Memory .words bottom)) ⌝ }
+fn hub_of<M: Memory>(file: &[u8], memory: &M) -> Result<HubLine, Refusal>
+    ensures { λ r. ⌜ numbered r ≡ hub-of (now (file .entry)) (length (M·Memory .words (now (memory .entry)))) (M·Memory .kind) ⌝ }
 {
     let (head, _) = read_head(file)?;
     let setup = check(head.draft)?;
-    let memory = LastLevelStore::over(bottom);
     let mut policy = Fixed::of(head.holds);
-    Ok(describe(&setup, &memory, &mut policy))
+    Ok(describe(&setup, memory, &mut policy))
 }
 
 // What a listing tells of a hub on this set-up, memory and policy.

@@ -3,6 +3,8 @@ use memory::word_table::WordTable;
 use memory::word_table::WordTableMemory;
 use run::report;
 use std::test::*;
+use store::last_level::LastLevelStore;
+use store::last_level::answering::LastLevelStoreMemory;
 
 // A head with every field at its largest.
 const LARGEST: [u8; 14] = [
@@ -25,7 +27,8 @@ const LARGEST: [u8; 14] = [
 // The listing of a file on a memory of so many words begins with this line.
 fn prints_on(words: &mut [u64], file: &[u8], line: &[u8]) -> bool {
     let mut out = [0; 64];
-    match report(file, WordTable::over(words), &mut out) {
+    let memory = LastLevelStore::over(WordTable::over(words));
+    match report(file, &memory, &mut out) {
         Ok(n) => &out[0..n] == line,
         Err(_) => false,
     }
@@ -61,7 +64,7 @@ fn files_at_the_limit_of_length(rt: LibcRuntime) -> Result<(), Fail> {
 fn short_buffer_is_refused_and_stays() -> Result<(), Fail> {
     let mut words = [0; 32];
     let mut out = [7; 63];
-    let refused = match report(&[0], WordTable::over(&mut words), &mut out) {
+    let refused = match report(&[0], &WordTable::over(&mut words), &mut out) {
         Ok(_) => false,
         Err(refusal) => refusal.number() == 11,
     };
