@@ -1,4 +1,6 @@
 // Policy kind 3: two sets of four numbers that rule in turn.
+#![tactic(auto)]
+
 ghost use Rattle.std.specs.Prelude.{◌≡◌, ℕ, ◌<◌, ◌≤◌};
 ghost use Rattle.alternating.specs.Alternation.{alternating, ruling, advanced, span, SomeSpell};
 ghost use Rattle.alternating.specs.AlternationLaw.{alternating_lawful};

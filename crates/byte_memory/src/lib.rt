@@ -1,4 +1,6 @@
 // Memory kind 2: the caller's buffer of bytes, eight for a word, highest first.
+#![tactic(auto)]
+
 ghost use Rattle.std.specs.Prelude.{◌≡◌, ℕ, ◌+◌, ◌*◌, ◌/◌, ◌<◌, ◌≤◌, List, length};
 ghost use Rattle.byte_memory.specs.Bytes.{word, digits, put_word, words};
 ghost use Rattle.memory.specs.Words.{reading, storing, stored};

@@ -1,4 +1,6 @@
 // Policy kind 4: any policy, under caps of one's own.
+#![tactic(auto)]
+
 ghost use Rattle.std.specs.Prelude.{ℕ, ◌≤◌, ◌≡◌};
 ghost use Rattle.capped.specs.Capping.{capped};
 ghost use Rattle.capped.specs.CappingLaw.{capped_lawful};

@@ -1,5 +1,7 @@
 // Prints the listings of packed run files, one after the other: each file's length in four bytes,
 // highest first, and then the file.
+#![tactic(auto)]
+
 use memory::word_table::WordTable;
 use run::report;
 use std::io;

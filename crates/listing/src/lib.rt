@@ -1,4 +1,5 @@
 // The lines of a listing, as values and as text in a caller's buffer.
+#![tactic(auto)]
 
 pub mod line;
 mod text;

@@ -1,4 +1,6 @@
 // Reads a run file from standard input and prints its listing, so far the first line of it.
+#![tactic(auto)]
+
 use memory::word_table::WordTable;
 use run::report;
 use std::io;

@@ -1,4 +1,6 @@
 // Policy kind 2: four numbers for each line, from the caller's table, cut to given caps.
+#![tactic(auto)]
+
 ghost use Rattle.std.specs.Prelude.{◌≡◌, ℕ, ◌≤◌};
 ghost use Rattle.per_line.specs.PerLine.{line_holds, per_line, FewTable};
 ghost use Rattle.per_line.specs.PerLineLaw.{per_line_lawful};

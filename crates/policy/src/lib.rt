@@ -1,4 +1,6 @@
 // What a timer policy is, and the policy of four fixed holds.
+#![tactic(auto)]
+
 ghost use Rattle.std.specs.Prelude.{ℕ, ◌≤◌, ◌≡◌};
 ghost use Rattle.policy.specs.Timing.{Timing, Lawful, later};
 ghost use Rattle.policy.specs.declared.class.Class.TheVariants.{Critical, NonCritical};

@@ -1,5 +1,7 @@
 // From the bytes of a run file to its listing. So far the listing is its first line: the hub that
 // the file's head asks for, with the bound of a critical wait, or the refusal.
+#![tactic(auto)]
+
 ghost use Rattle.std.specs.Prelude.{◌≡◌, ◌≤◌, true, length, take, is_ok, IfOk};
 ghost use Rattle.listing.specs.Lines.{answer, after};
 ghost use Rattle.run.specs.FirstLine.{hub_line, hub_of, first_line};

@@ -1,5 +1,6 @@
 // What a hub is built from before there is a hub: the checked set-up, the bound of a critical wait,
 // the kind numbers, and the refusals of the whole project.
+#![tactic(auto)]
 
 pub mod bound;
 pub mod checked;

@@ -1,4 +1,5 @@
 // Trials: the proved code, compiled and run on examples.
+#![tactic(auto)]
 
 #[cfg(test)]
 mod listings;

@@ -1,4 +1,6 @@
 // Cases worked out from the rules, computed on the definitions that the contracts cite.
+#![tactic(auto)]
+
 ghost use Rattle.worked_cases.specs.Calls.{CallsWorked};
 ghost use Rattle.worked_cases.specs.Table.{Worked};
 
