@@ -1,6 +1,6 @@
 -- What an ask that is not refused says of its numbers, and what questions leave.
 use Rattle.std.proofs.Common.{◌≡◌, ℕ, ◌<◌, Bool, true, false, not, ltb, Some, None, Option, refl}
-use Rattle.std.proofs.lemmas.Bool.{ltb-true, not_true}
+use Rattle.std.proofs.lemmas.Bool.{ltb-true, not-true}
 use Rattle.setup.specs.declared.refusal.Refusal.{Refusal}
 use Rattle.setup.specs.declared.refusal.Refusal.TheVariants.{NoSuchCore, NoSuchLine, RequestPending}
 use Rattle.machine.specs.declared.reply.Reply.{Reply}
@@ -20,7 +20,7 @@ ask_accepted z i l s e =
     let core = tested_none (ltb i z.cores) NoSuchCore _ e in
     let line = tested_none (ltb l z.lines) NoSuchLine _ core.1 in
     let free = tested_none (not (is_waiting (s.requests i))) RequestPending None line.1 in
-    (ltb-true i z.cores core.0, ltb-true l z.lines line.0, not_true (is_waiting (s.requests i)) free.0)
+    (ltb-true i z.cores core.0, ltb-true l z.lines line.0, not-true (is_waiting (s.requests i)) free.0)
 
 pub unless_same : (v : Option Refusal) (r : Reply) (s : State) → (unless v (unchanged r s) s).state ≡ s
 unless_same None r s = refl

@@ -9,7 +9,7 @@ returns c =
     let at = 8 * c.args.line in
     let bs = c.args.bytes.now in
     let k : at + 8 - at ≡ 8 = omega arith in
-    let e : c.copy-from-slice.new.self ≡ digits c.args.word = c.copy-from-slice.ensures.after ∙ c.eight-bytes-digits.ensures in
-    ap (λ n. put_mid at n bs c.copy-from-slice.new.self) k
+    let e : c.copy_from_slice.new.self ≡ digits c.args.word = c.copy_from_slice.ensures.after ∙ c.eight_bytes-digits.ensures in
+    ap (λ n. put_mid at n bs c.copy_from_slice.new.self) k
     ∙ ap (λ ys. put_mid at 8 bs ys) e
     ∙ ap (λ zs. take at bs ++ (digits c.args.word ++ zs)) (drop-drop 8 at bs)

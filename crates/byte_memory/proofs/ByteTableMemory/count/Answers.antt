@@ -3,4 +3,4 @@ use Rattle.byte_memory.proofs.ByteWords.{length_words}
 use Rattle.byte_memory.proofs.ByteTableMemory.count.Goals as goal
 
 pub returns : goal.returns
-returns c = record { value = c.whole-words.ensures ∙ sym (length_words _); eighth = c.whole-words.ensures }
+returns c = record { value = c.whole_words.ensures ∙ sym (length_words _); eighth = c.whole_words.ensures }

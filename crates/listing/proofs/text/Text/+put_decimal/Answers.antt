@@ -2,14 +2,14 @@ use Rattle.std.proofs.Common.{append_assoc, length-append, rules}
 use Rattle.std.proofs.lemmas.Fmt.{decimal_step, decimal_digit}
 use Rattle.listing.proofs.text.Text.+put_decimal.Goals as goal
 
-pub put-decimal-requires : goal.put-decimal-requires
-put-decimal-requires t c = search (rules, decimal_step, length-append)
+pub put_decimal-requires : goal.put_decimal-requires
+put_decimal-requires t c = search (rules, decimal_step, length-append)
 
-pub put-byte-requires : goal.put-byte-requires
-put-byte-requires t c = search (rules, decimal_digit)
+pub put_byte-requires : goal.put_byte-requires
+put_byte-requires t c = search (rules, decimal_digit)
 
-pub put-byte-requires-else-n-lt10 : goal.put-byte-requires-else-n-lt10
-put-byte-requires-else-n-lt10 t c = search (rules, decimal_step, length-append)
+pub put_byte-requires-else-n-lt10 : goal.put_byte-requires-else-n-lt10
+put_byte-requires-else-n-lt10 t c = search (rules, decimal_step, length-append)
 
 pub returns-then-n-lt10 : goal.returns-then-n-lt10
 returns-then-n-lt10 t c = search (rules, decimal_digit)

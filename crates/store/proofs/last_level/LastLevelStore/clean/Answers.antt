@@ -6,8 +6,8 @@ use Rattle.store.specs.declared.place.Place.TheVariants.{Free}
 use Rattle.store.proofs.Laid.{held_more, held_most, all_free, overlaid_free}
 use Rattle.store.proofs.last_level.LastLevelStore.clean.Goals as goal
 
-pub overflow-add-stored : goal.overflow-add-stored
-overflow-add-stored g c =
+pub overflow_add-stored : goal.overflow_add-stored
+overflow_add-stored g c =
     let v = c.loop-i.invariant in
     let s = c.release-stored.ensures in
     omega (arith, v.5, s.value, held_most (length (g.M.Memory.words c.loop-i.self.below)) (get_or c.loop-i.self.places c.loop-i.i Free))

@@ -5,8 +5,8 @@ use Rattle.store.proofs.last_level.LastLevelStore.over.Goals as goal
 
 pub returns : goal.returns
 returns g c =
-    let made = c.free-over.result in
-    let told = c.free-over.ensures in
+    let made = c.free_over.result in
+    let told = c.free_over.ensures in
     let ws = g.M.Memory.words c.args.below in
     let words : overlaid (g.M.Memory.words made.below) made.places ≡ ws =
     ap (λ b. overlaid (g.M.Memory.words b) made.places) told.below

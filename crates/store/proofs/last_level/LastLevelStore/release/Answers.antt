@@ -26,7 +26,7 @@ returns-in-Holds g c =
     let e = c.store.ensures in
     let held_there : get_or s.places c.args.i Free ≡ Holds c.in-Holds.line c.in-Holds.word = sym t.value in
     record {
-      value = c.from.ensures ∙ ap bool_byte c.is-ok.ensures.value ∙ held_taken ws _ c.in-Holds.line c.in-Holds.word c.store.result held_there e.value;
+      value = c.from.ensures ∙ ap bool_byte c.is_ok.ensures.value ∙ held_taken ws _ c.in-Holds.line c.in-Holds.word c.store.result held_there e.value;
       meaning =
           ap (overlaid (g.M.Memory.words c.store.new.self)) t.places
           ∙ ap (λ vs. overlaid vs (set s.places c.args.i Free)) e.after

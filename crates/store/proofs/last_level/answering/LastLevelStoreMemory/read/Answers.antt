@@ -4,8 +4,8 @@ use Rattle.store.specs.Overlay.{overlaid}
 use Rattle.store.proofs.Laid.{length_overlaid, get_or_overlaid, reading_below}
 use Rattle.store.proofs.last_level.answering.LastLevelStoreMemory.read.Goals as goal
 
-pub returns-then-line-count-below : goal.returns-then-line-count-below
-returns-then-line-count-below g c =
+pub returns-then-line-count_below : goal.returns-then-line-count_below
+returns-then-line-count_below g c =
     let ws = g.M.Memory.words c.args.self.now.below in
     let ps = c.args.self.now.places in
     record {

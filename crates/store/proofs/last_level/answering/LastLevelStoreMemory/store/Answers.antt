@@ -6,8 +6,8 @@ use Rattle.store.specs.declared.place.Place.TheVariants.{Holds}
 use Rattle.store.proofs.Laid.{length_overlaid, overlaid_stored}
 use Rattle.store.proofs.last_level.answering.LastLevelStoreMemory.store.Goals as goal
 
-pub returns-then-line-count-below : goal.returns-then-line-count-below
-returns-then-line-count-below g c =
+pub returns-then-line-count_below : goal.returns-then-line-count_below
+returns-then-line-count_below g c =
     let ws = g.M.Memory.words c.args.self.now.below in
     let ps = c.args.self.now.places in
     record {
@@ -23,13 +23,13 @@ returns g c =
     let s = c.args.self.now in
     let ws = g.M.Memory.words s.below in
     let ps = s.places in
-    let room = c.make-room.ensures in
+    let room = c.make_room.ensures in
     let put = Holds c.args.line c.args.word in
-    let placed = c.place-word.ensures ∙ ap (λ qs. set qs (place_of c.args.line) put) room.places in
+    let placed = c.place_word.ensures ∙ ap (λ qs. set qs (place_of c.args.line) put) room.places in
     record {
       value = storing_at (overlaid ws ps) _ (omega (arith, length_overlaid ws ps));
       after =
-          ap (λ qs. overlaid (g.M.Memory.words c.make-room.new.self.below) qs) placed
+          ap (λ qs. overlaid (g.M.Memory.words c.make_room.new.self.below) qs) placed
           ∙ ap (λ vs. overlaid vs (set ps (place_of c.args.line) put)) room.below
           ∙ overlaid_stored ws ps c.args.line c.args.word (omega arith) s.sixteen s.fitting;
       refused = λ h. absurd (omega (arith, length_overlaid ws ps));
