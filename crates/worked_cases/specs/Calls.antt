@@ -1,5 +1,5 @@
 -- One table of worked runs of the machine, call by call, and of the names of its states.
-use Rattle.std.specs.Prelude.{◌≡◌, ℕ, List, [], ◌∷◌, map, codes, refl}
+use Rattle.std.specs.Prelude.{◌≡◌, ℕ, List, [], ◌∷◌, map, codes}
 use Rattle.machine.specs.declared.call.Call.{Call}
 use Rattle.machine.specs.declared.reply.Reply.{Reply}
 use Rattle.machine.specs.History.{Start, sizes, fresh}
@@ -63,8 +63,3 @@ table =
 
 abbrev pub CallsWorked : Type 0
 CallsWorked = map (λ r. outcome r.question) table ≡ map (λ r. r.worked) table
-
--- every run comes out as worked, by computing all of them
-pub works : CallsWorked
-unfolding play
-works = refl
