@@ -1,5 +1,5 @@
 -- Two sets in turn obey the law of policies.
-use Rattle.std.specs.Prelude.{ℕ, ◌+◌, ◌%◌, ◌≤◌, nat_lt}
+use Rattle.std.specs.Prelude.{◌+◌, ◌%◌, ◌≤◌, nat_lt}
 use Rattle.std.proofs.Common.{arith}
 use Rattle.std.proofs.lemmas.Bool.{cond_both}
 use Rattle.policy.specs.declared.class.Class.{Class}

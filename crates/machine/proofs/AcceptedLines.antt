@@ -2,7 +2,6 @@
 use Rattle.std.proofs.Common.{ℕ, ◌<◌, List, length, arith}
 use Rattle.std.proofs.lemmas.Bool.{lt-ltb}
 use Rattle.machine.specs.AcceptedLines.{Accepted, MemoryRefusesNoLine}
-use Rattle.machine.specs.Answering.{in_slot}
 use Rattle.machine.specs.Parts.{line_of, op_of}
 use Rattle.machine.proofs.CoherentCalls.{story}
 use Rattle.machine.proofs.Shapes.{waiting_wish}

@@ -1,5 +1,5 @@
 -- Which event answers which request, and which word a line has, by calls and replies alone.
-use Rattle.std.specs.Prelude.{◌≡◌, ℕ, List, [], ◌∷◌, ◌++◌, slice_index}
+use Rattle.std.specs.Prelude.{◌≡◌, ℕ, [], ◌∷◌, ◌++◌, slice_index}
 use Rattle.machine.specs.declared.call.Call.TheVariants.{Ask, Slot}
 use Rattle.machine.specs.declared.op.Op.{Op}
 use Rattle.machine.specs.declared.op.Op.TheVariants.{Write}

@@ -1,5 +1,5 @@
 -- Functions of a number, as of a core or a line: one place changed, and what the numbers below a limit do.
-use Rattle.std.specs.Prelude.{ℕ, zero, suc, Bool, true, false, cond, ◌&&◌, Some, None, Option, ◌==◌}
+use Rattle.std.specs.Prelude.{ℕ, zero, suc, Bool, true, cond, ◌&&◌, Some, None, Option, ◌==◌}
 
 -- f, but v at i
 abbrev pub put : {A : Type 0} → ℕ → A → (ℕ → A) → ℕ → A

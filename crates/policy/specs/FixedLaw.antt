@@ -1,5 +1,5 @@
 -- Four numbers obey the law of policies.
-use Rattle.std.specs.Prelude.{ℕ, ◌≤◌}
+use Rattle.std.specs.Prelude.{◌≤◌}
 use Rattle.std.proofs.Common.{arith}
 use Rattle.policy.specs.declared.class.Class.{Class}
 use Rattle.policy.specs.declared.class.Class.TheVariants.{Critical, NonCritical}

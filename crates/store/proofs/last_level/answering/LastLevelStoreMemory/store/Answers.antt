@@ -1,4 +1,4 @@
-use Rattle.std.proofs.Common.{length, set, sym, refl, ap, ◌∙◌, arith}
+use Rattle.std.proofs.Common.{length, set, refl, ap, ◌∙◌, arith}
 use Rattle.std.proofs.lemmas.Bool.{cond_below, cond_above}
 use Rattle.memory.proofs.Answered.{storing_at, storing_past, stored_past}
 use Rattle.store.specs.Overlay.{place_of, overlaid}
