@@ -10,19 +10,18 @@ use setup::refusal::Refusal;
 
 pub mod word_table;
 
-// A memory by its meaning, the list of its words. Refused are just the lines that it does not have; a
-// refusal leaves the memory as it was, to the last bit of its representation.
+/// A memory by its meaning, the list of its words. Refused are just the lines that it does not have; a
+/// refusal leaves the memory as it was, to the last bit of its representation.
 pub trait Memory {
-    // The number of this kind of memory. Clauses cite it as `kind`.
+    /// The number of this kind of memory.
     const KIND: Kind;
 
     ghost kind: { ℕ };
 
     ghost words: { Self → List ℕ };
 
-    fn kind_number(&self) -> u8
-        ensures value { result ≡ kind }
-        ensures some { 1 ≤ result };
+    fn kind_number(&self) -> Kind
+        ensures { result ≡ kind };
 
     fn count(&self) -> usize
         ensures { result ≡ length (words self.now) };

@@ -1,5 +1,5 @@
 // Memory kind 1: the caller's table of words.
-ghost use Rattle.std.specs.Prelude.{◌≡◌, ℕ, ◌≤◌, List, length};
+ghost use Rattle.std.specs.Prelude.{◌≡◌, ◌≤◌, length};
 ghost use Rattle.memory.specs.Words.{reading, storing, stored};
 ghost use Rattle.setup.specs.Refusals.{numbered};
 
@@ -7,11 +7,21 @@ use crate::Memory;
 use setup::kind::Kind;
 use setup::refusal::Refusal;
 
-pub mod making;
-
-#[derive(Drop)]
+#[derive(Debug, Drop)]
 pub struct WordTable<'a> {
     table: &'a mut [u64],
+}
+
+impl<'a> WordTable<'a> {
+    /// The memory whose words lie in the caller's table, all of them and as they stand.
+    pub fn over(table: &'a mut [u64]) -> WordTable<'a>
+        ensures kind { ⟦<Self as Memory>⟧.kind ≡ 1 }
+        ensures words { ⟦<Self as Memory>⟧.words result ≡ table.old }
+        ensures count { length (⟦<Self as Memory>⟧.words result) ≡ length table.old }
+        ensures table { result.table ≡ table.entry }
+    {
+        WordTable { table }
+    }
 }
 
 impl Memory for WordTable<'_> {
@@ -19,18 +29,13 @@ impl Memory for WordTable<'_> {
 
     ghost kind = { 1 };
 
-    ghost words = { λ m. m.table.now };
+    ghost words = { λ memory. memory.table.now };
 
-    fn kind_number(&self) -> u8
-        ensures value { result ≡ 1 }
-        ensures some { 1 ≤ result }
-    {
-        <Self as Memory>::KIND.number
+    fn kind_number(&self) -> Kind {
+        <Self as Memory>::KIND
     }
 
-    fn count(&self) -> usize
-        ensures { result ≡ length self.now.table.now }
-    {
+    fn count(&self) -> usize {
         self.table.len()
     }
 

@@ -1,11 +1,11 @@
 -- Four numbers obey the law of policies.
 use Rattle.std.specs.Prelude.{◌≤◌}
 use Rattle.std.proofs.Common.{arith}
-use Rattle.policy.specs.declared.class.Class.{Class}
-use Rattle.policy.specs.declared.class.Class.TheVariants.{Critical, NonCritical}
-use Rattle.policy.specs.declared.holds.FourHolds.{FourHolds}
-use Rattle.policy.specs.Timing.{Lawful, cap}
-use Rattle.policy.specs.FourNumbers.{number, caps_of, fixed, FewHolds}
+use Rattle.setup.specs.Classes.{of_class}
+use Rattle.setup.specs.declared.class.Class.{Class}
+use Rattle.setup.specs.declared.class.Class.TheVariants.{Critical, NonCritical}
+use Rattle.policy.specs.Timing.{Lawful}
+use Rattle.policy.specs.FourNumbers.{FourHolds, number, caps_of, fixed, FewHolds}
 
 pub few_number : (v : FourHolds) → FewHolds v → (holder requester : Class) → number v holder requester ≤ 65535
 few_number v f Critical Critical = f.0.0
@@ -14,15 +14,15 @@ few_number v f NonCritical Critical = f.1.0
 few_number v f NonCritical NonCritical = f.1.1
 
 -- a four-number cap lies from 1 to 65,535 and above its number
-cap_some : (v : FourHolds) (holder : Class) → 1 ≤ cap (caps_of v) holder
+cap_some : (v : FourHolds) (holder : Class) → 1 ≤ of_class (caps_of v) holder
 cap_some v Critical = omega arith
 cap_some v NonCritical = omega arith
 
-cap_few : (v : FourHolds) → FewHolds v → (holder : Class) → cap (caps_of v) holder ≤ 65535
+cap_few : (v : FourHolds) → FewHolds v → (holder : Class) → of_class (caps_of v) holder ≤ 65535
 cap_few v f Critical = omega (arith, f.0.0)
 cap_few v f NonCritical = omega (arith, f.1.0)
 
-cap_above : (v : FourHolds) (holder : Class) → number v holder Critical ≤ cap (caps_of v) holder
+cap_above : (v : FourHolds) (holder : Class) → number v holder Critical ≤ of_class (caps_of v) holder
 cap_above v Critical = omega arith
 cap_above v NonCritical = omega arith
 

@@ -1,23 +1,22 @@
 -- Kind 1: four numbers, the same for every slot, core and line.
 use Rattle.std.specs.Prelude.{ℕ, ◌≤◌, max}
-use Rattle.setup.specs.declared.bound.Caps.{Caps}
-use Rattle.policy.specs.declared.class.Class.{Class}
-use Rattle.policy.specs.declared.class.Class.TheVariants.{Critical, NonCritical}
-use Rattle.policy.specs.declared.holds.Against.{Against}
-use Rattle.policy.specs.declared.holds.FourHolds.{FourHolds}
+use Rattle.setup.specs.Bound.{Caps}
+use Rattle.setup.specs.Classes.{of_class}
+use Rattle.setup.specs.declared.class.ByClass.{ByClass}
+use Rattle.setup.specs.declared.class.Class.{Class}
+use Rattle.setup.specs.declared.class.Class.TheVariants.{Critical, NonCritical}
 use Rattle.policy.specs.Timing.{Timing}
 
--- the number for a requester's class, and for a holder's and a requester's
-abbrev pub against : Against → Class → ℕ
-against a Critical = a.critical
-against a NonCritical = a.noncritical
+-- holds by the requester's class
+abbrev pub Against : Type 0
+Against = ByClass ℕ
 
-abbrev pub row : FourHolds → Class → Against
-row v Critical = v.critical
-row v NonCritical = v.noncritical
+-- by the holder's class, and then by the requester's
+abbrev pub FourHolds : Type 0
+FourHolds = ByClass Against
 
 abbrev pub number : FourHolds → Class → Class → ℕ
-number v holder requester = against (row v holder) requester
+number v holder requester = of_class (of_class v holder) requester
 
 -- a cap of 0 is raised to 1
 abbrev pub raised : Caps → Caps

@@ -1,22 +1,31 @@
 // Policy kind 1: four numbers for every slot, core and line.
-ghost use Rattle.std.specs.Prelude.{ℕ, ◌≤◌, ◌≡◌};
+ghost use Rattle.std.specs.Prelude.{◌≡◌};
 ghost use Rattle.policy.specs.FourNumbers.{fixed, FewHolds};
 ghost use Rattle.policy.specs.FixedLaw.{fixed_lawful};
-ghost use Rattle.policy.specs.Timing.{Timing, Lawful, later};
-ghost use Rattle.policy.specs.declared.class.Class.TheVariants.{Critical, NonCritical};
+ghost use Rattle.policy.specs.Timing.{later};
+ghost use Rattle.setup.specs.declared.class.Class.TheVariants.{Critical, NonCritical};
 
 use crate::Policy;
-use crate::class::Class;
-use crate::holds::FourHolds;
+use crate::holds::{FourHolds, caps_of};
 use setup::bound::Caps;
+use setup::class::Class;
 use setup::kind::Kind;
 
-pub mod making;
-
-#[derive(Clone, Copy)]
+#[derive(Clone, Copy, Debug, PartialEq, Eq, Hash)]
 pub struct Fixed {
     holds: FourHolds,
     ghost few: { FewHolds holds },
+}
+
+impl Fixed {
+    /// The policy of these four holds.
+    pub fn of(holds: FourHolds) -> Fixed
+        ensures kind { ⟦<Self as Policy>⟧.kind ≡ 1 }
+        ensures timing { ⟦<Self as Policy>⟧.timing result ≡ fixed holds }
+        ensures holds { result.holds ≡ holds }
+    {
+        Fixed { holds }
+    }
 }
 
 impl Policy for Fixed {
@@ -28,11 +37,8 @@ impl Policy for Fixed {
 
     ghost lawful = { λ p. fixed_lawful p.holds p.few };
 
-    fn kind_number(&self) -> u8
-        ensures value { result ≡ 1 }
-        ensures some { 1 ≤ result }
-    {
-        <Self as Policy>::KIND.number
+    fn kind_number(&self) -> Kind {
+        <Self as Policy>::KIND
     }
 
     fn caps(&mut self) -> Caps
@@ -40,7 +46,7 @@ impl Policy for Fixed {
         ensures same { fixed self.new.holds ≡ fixed self.old.holds }
         ensures kept { self.new ≡ self.old }
     {
-        self.holds.caps()
+        caps_of(self.holds)
     }
 
     fn holds(&mut self, core: usize, class: Class, line: usize) -> (u16, u16)
@@ -49,7 +55,7 @@ impl Policy for Fixed {
         ensures same { fixed self.new.holds ≡ fixed self.old.holds }
         ensures kept { self.new ≡ self.old }
     {
-        self.holds.pair(class)
+        self.holds.of(class).into()
     }
 
     fn slot_passed(&mut self)

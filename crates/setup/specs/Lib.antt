@@ -1,3 +1,4 @@
+pub mod Classes
 pub mod Refusals
 pub mod Limits
 pub mod Bound

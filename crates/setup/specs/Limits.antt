@@ -1,9 +1,12 @@
 -- The limits of a set-up, and which of them decides a refusal.
-use Rattle.std.specs.Prelude.{ℕ, Bool, cond, ◌&&◌, Ok, Err, Result, nat_le}
-use Rattle.setup.specs.Refusals.{number}
-use Rattle.setup.specs.declared.checked.SetUp.{SetUp}
+use Rattle.std.specs.Prelude.{ℕ, ◌≤◌, Bool, cond, ◌&&◌, Ok, Err, Result, nat_le}
 use Rattle.setup.specs.declared.draft.Draft.{Draft}
-use Rattle.setup.specs.declared.refusal.Refusal.{Refusal}
+
+pub record KeepsLimits (d : Draft) : Type 0 where
+  pub cores : (1 ≤ d.cores) × (d.cores ≤ 8)
+  pub critical : (1 ≤ d.critical) × (d.critical ≤ d.cores)
+  pub lines : (1 ≤ d.lines) × (d.lines ≤ 32)
+  pub width : (1 ≤ d.width) × (d.width ≤ 65535)
 
 abbrev pub within : ℕ → ℕ → ℕ → Bool
 within low high n = nat_le low n && nat_le n high
@@ -16,8 +19,3 @@ checking d =
     (cond (within 1 32 d.lines) (cond (within 1 65535 d.width) (Ok d) (Err 4)) (Err 3))
     (Err 2))
     (Err 1)
-
--- what checking answered: the numbers of the set-up, or the refusal's number
-abbrev pub outcome : Result SetUp Refusal → Result Draft ℕ
-outcome (Ok s) = Ok s.draft
-outcome (Err e) = Err (number e)

@@ -1,25 +1,26 @@
-// Counts of slots and of cycles. They are types of their own, so that neither is taken for the other.
+// The bound of a critical wait.
+ghost use Rattle.setup.specs.Bound.{bound};
+ghost use Rattle.std.specs.Prelude.{◌≡◌};
 
-// The caps of a policy: the most slots for which a critical, or a non-critical, holder may keep
-// a critical requester out.
-#[derive(Clone, Copy)]
-pub struct Caps {
-    pub critical: u16,
-    pub noncritical: u16,
+use crate::checked::SetUp;
+use crate::class::ByClass;
+use crate::slots::Slots;
+
+/// The caps of a policy: the most slots for which a critical, or a non-critical, holder may keep
+/// a critical requester out.
+pub type Caps = ByClass<u16>;
+
+impl SetUp {
+    /// The slots after which an accepted request of a critical core is answered at the latest, under
+    /// these caps.
+    pub fn bound(&self, caps: Caps) -> Slots
+        ensures { result ≡ bound self.now.critical caps }
+    {
+        let others = self.critical() - 1;
+        let hc = u32::from(caps.critical);
+        let hn = u32::from(caps.noncritical);
+        Slots {
+            count: 2 * others + hc.max(hn) + others * (hc + others),
+        }
+    }
 }
-
-// A count of slots.
-#[derive(Clone, Copy)]
-pub struct Slots {
-    count: u32,
-}
-
-// A count of cycles.
-#[derive(Clone, Copy)]
-pub struct Cycles {
-    count: u64,
-}
-
-pub mod converting;
-pub mod counting;
-pub mod waiting;

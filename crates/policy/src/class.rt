@@ -1,6 +1,0 @@
-// Whether a core is critical.
-#[derive(Clone, Copy)]
-pub enum Class {
-    Critical,
-    NonCritical,
-}
