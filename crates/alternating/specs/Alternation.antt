@@ -1,8 +1,7 @@
 -- Kind 3: two sets of holds that rule in turn.
 use Rattle.std.specs.Prelude.{ℕ, ◌+◌, ◌%◌, ◌≤◌, max, cond, nat_lt}
-use Rattle.setup.specs.declared.bound.Caps.{Caps}
-use Rattle.policy.specs.declared.holds.FourHolds.{FourHolds}
-use Rattle.policy.specs.FourNumbers.{number, caps_of, Few, FewHolds}
+use Rattle.setup.specs.Bound.{Caps}
+use Rattle.policy.specs.FourNumbers.{FourHolds, number, caps_of, Few, FewHolds}
 use Rattle.policy.specs.Timing.{Timing}
 use Rattle.alternating.specs.declared.schedule.Schedule.{Schedule}
 use Rattle.alternating.specs.declared.schedule.Spell.{Spell}

@@ -1,23 +1,22 @@
 // Policy kind 3: two sets of four numbers that rule in turn.
 #![tactic(auto)]
 
-ghost use Rattle.std.specs.Prelude.{◌≡◌, ℕ, ◌<◌, ◌≤◌};
-ghost use Rattle.alternating.specs.Alternation.{alternating, ruling, advanced, span, SomeSpell};
+ghost use Rattle.std.specs.Prelude.{◌≡◌, ◌<◌};
+ghost use Rattle.alternating.specs.Alternation.{alternating, spell, schedule, ruling, advanced, span, SomeSpell};
 ghost use Rattle.alternating.specs.AlternationLaw.{alternating_lawful};
-ghost use Rattle.policy.specs.Timing.{Timing, Lawful, later};
-ghost use Rattle.policy.specs.declared.class.Class.TheVariants.{Critical, NonCritical};
+ghost use Rattle.policy.specs.Timing.{later};
+ghost use Rattle.setup.specs.declared.class.Class.TheVariants.{Critical, NonCritical};
 
-use crate::schedule::Schedule;
+use crate::schedule::{Schedule, Spell};
 use policy::Policy;
-use policy::class::Class;
-use policy::holds::FourHolds;
+use policy::holds::{FourHolds, caps_of};
 use setup::bound::Caps;
+use setup::class::Class;
 use setup::kind::Kind;
 
-pub mod making;
 mod schedule;
 
-#[derive(Clone, Copy)]
+#[derive(Clone, Copy, Debug, PartialEq, Eq, Hash)]
 pub struct Alternating {
     schedule: Schedule,
     ghost first: { SomeSpell schedule.first },
@@ -26,7 +25,30 @@ pub struct Alternating {
 }
 
 impl Alternating {
-    // The set that rules now.
+    /// The policy of two sets, each with its length in slots, a length of 0 counted as 1. The first
+    /// set rules from now on.
+    pub fn of(first: FourHolds, n: u16, second: FourHolds, m: u16) -> Alternating
+        ensures kind { ⟦<Self as Policy>⟧.kind ≡ 3 }
+        ensures timing { ⟦<Self as Policy>⟧.timing result ≡ alternating (schedule (spell first n) (spell second m)) }
+    {
+        let first = Spell {
+            holds: first,
+            slots: u32::from(n.max(1)),
+        };
+        let second = Spell {
+            holds: second,
+            slots: u32::from(m.max(1)),
+        };
+        Alternating {
+            schedule: Schedule {
+                first,
+                second,
+                at: 0,
+            },
+        }
+    }
+
+    /// The set that rules now.
     fn ruling(&self) -> FourHolds
         ensures { result ≡ ruling self.now.schedule }
     {
@@ -37,7 +59,7 @@ impl Alternating {
         }
     }
 
-    // One slot on, round the two spells.
+    /// One slot on, round the two spells.
     fn advance(&mut self)
         ensures { self.new.schedule ≡ advanced self.old.schedule }
     {
@@ -55,11 +77,8 @@ impl Policy for Alternating {
 
     ghost lawful = { λ p. alternating_lawful p.schedule p.first p.second };
 
-    fn kind_number(&self) -> u8
-        ensures value { result ≡ 3 }
-        ensures some { 1 ≤ result }
-    {
-        <Self as Policy>::KIND.number
+    fn kind_number(&self) -> Kind {
+        <Self as Policy>::KIND
     }
 
     fn caps(&mut self) -> Caps
@@ -67,12 +86,9 @@ impl Policy for Alternating {
         ensures same { alternating self.new.schedule ≡ alternating self.old.schedule }
         ensures kept { self.new ≡ self.old }
     {
-        let a = self.schedule.first.holds.caps();
-        let b = self.schedule.second.holds.caps();
-        Caps {
-            critical: a.critical.max(b.critical),
-            noncritical: a.noncritical.max(b.noncritical),
-        }
+        let first = caps_of(self.schedule.first.holds);
+        let second = caps_of(self.schedule.second.holds);
+        first.zip_with(second, u16::max)
     }
 
     fn holds(&mut self, core: usize, class: Class, line: usize) -> (u16, u16)
@@ -81,7 +97,7 @@ impl Policy for Alternating {
         ensures same { alternating self.new.schedule ≡ alternating self.old.schedule }
         ensures kept { self.new ≡ self.old }
     {
-        self.ruling().pair(class)
+        self.ruling().of(class).into()
     }
 
     fn slot_passed(&mut self)

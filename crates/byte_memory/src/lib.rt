@@ -1,8 +1,8 @@
 // Memory kind 2: the caller's buffer of bytes, eight for a word, highest first.
 #![tactic(auto)]
 
-ghost use Rattle.std.specs.Prelude.{◌≡◌, ℕ, ◌+◌, ◌*◌, ◌/◌, ◌<◌, ◌≤◌, List, length};
-ghost use Rattle.byte_memory.specs.Bytes.{word, digits, put_word, words};
+ghost use Rattle.std.specs.Prelude.{◌≡◌, ◌+◌, ◌*◌, ◌/◌, ◌<◌, ◌≤◌, length, slice_get};
+ghost use Rattle.byte_memory.specs.Bytes.{put_word, words};
 ghost use Rattle.memory.specs.Words.{reading, storing, stored};
 ghost use Rattle.setup.specs.Refusals.{numbered};
 
@@ -10,49 +10,9 @@ use memory::Memory;
 use setup::kind::Kind;
 use setup::refusal::Refusal;
 
-pub mod making;
-
-#[derive(Drop)]
+#[derive(Debug, Drop)]
 pub struct ByteTable<'a> {
     bytes: &'a mut [u8],
-}
-
-impl ByteTable<'_> {
-    fn whole_words(&self) -> usize
-        ensures { result ≡ length self.now.bytes.now / 8 }
-    {
-        self.bytes.len() / 8
-    }
-
-    fn word(&self, line: usize) -> u64
-        requires { 8 * line + 8 ≤ length self.now.bytes.now }
-        ensures { result ≡ word self.now.bytes.now line }
-    {
-        word_at(self.bytes, line)
-    }
-}
-
-fn word_at(bytes: &[u8], line: usize) -> u64
-    requires { 8 * line + 8 ≤ length bytes.now }
-    ensures { result ≡ word bytes.now line }
-{
-    let at = 8 * line;
-    u64::from_be_bytes([
-        bytes[at],
-        bytes[at + 1],
-        bytes[at + 2],
-        bytes[at + 3],
-        bytes[at + 4],
-        bytes[at + 5],
-        bytes[at + 6],
-        bytes[at + 7],
-    ])
-}
-
-fn eight_bytes(word: u64) -> [u8; 8]
-    ensures { result ≡ digits word }
-{
-    word.to_be_bytes()
 }
 
 fn put_word_at(bytes: &mut [u8], line: usize, word: u64)
@@ -60,8 +20,27 @@ fn put_word_at(bytes: &mut [u8], line: usize, word: u64)
     ensures { bytes.new ≡ put_word bytes.old line word }
 {
     let at = 8 * line;
-    let digits = eight_bytes(word);
-    bytes[at..at + 8].copy_from_slice(&digits);
+    bytes[at..at + 8].copy_from_slice(&word.to_be_bytes());
+}
+
+impl<'a> ByteTable<'a> {
+    /// The memory whose words lie in the caller's buffer. Up to seven bytes at its end belong to no word.
+    pub fn over(bytes: &'a mut [u8]) -> ByteTable<'a>
+        ensures kind { ⟦<Self as Memory>⟧.kind ≡ 2 }
+        ensures words { ⟦<Self as Memory>⟧.words result ≡ words bytes.old }
+        ensures bytes { result.bytes ≡ bytes.entry }
+    {
+        ByteTable { bytes }
+    }
+
+    /// The word of a line, if there is such a line.
+    fn word(&self, line: usize) -> Option<u64>
+        ensures { result ≡ slice_get (words self.now.bytes.now) line }
+    {
+        let (words, _) = self.bytes.as_chunks::<8>();
+        let digits = words.get(line)?;
+        Some(u64::from_be_bytes(*digits))
+    }
 }
 
 impl Memory for ByteTable<'_> {
@@ -69,20 +48,17 @@ impl Memory for ByteTable<'_> {
 
     ghost kind = { 2 };
 
-    ghost words = { λ m. words m.bytes.now };
+    ghost words = { λ memory. words memory.bytes.now };
 
-    fn kind_number(&self) -> u8
-        ensures value { result ≡ 2 }
-        ensures some { 1 ≤ result }
-    {
-        <Self as Memory>::KIND.number
+    fn kind_number(&self) -> Kind {
+        <Self as Memory>::KIND
     }
 
     fn count(&self) -> usize
         ensures value { result ≡ length (words self.now.bytes.now) }
         ensures eighth { result ≡ length self.now.bytes.now / 8 }
     {
-        self.whole_words()
+        self.bytes.len() / 8
     }
 
     fn read(&mut self, line: usize) -> Result<u64, Refusal>
@@ -91,11 +67,7 @@ impl Memory for ByteTable<'_> {
         ensures refused { length (words self.old.bytes.now) ≤ line → self.new ≡ self.old }
         ensures kept { self.new ≡ self.old }
     {
-        if line < self.whole_words() {
-            Ok(self.word(line))
-        } else {
-            Err(Refusal::PastMemory)
-        }
+        self.word(line).ok_or(Refusal::PastMemory)
     }
 
     fn store(&mut self, line: usize, word: u64) -> Result<(), Refusal>
@@ -105,7 +77,7 @@ impl Memory for ByteTable<'_> {
         ensures bytes { line < length self.old.bytes.now / 8 → self.new.bytes.now ≡ put_word self.old.bytes.now line word }
         ensures place { self.new.bytes.ghost_name ≡ self.old.bytes.ghost_name }
     {
-        if line < self.whole_words() {
+        if line < self.count() {
             put_word_at(self.bytes, line, word);
             Ok(())
         } else {

@@ -1,6 +1,6 @@
 -- Kind 4: another policy's timing under caps of one's own.
 use Rattle.std.specs.Prelude.{min}
-use Rattle.setup.specs.declared.bound.Caps.{Caps}
+use Rattle.setup.specs.Bound.{Caps}
 use Rattle.policy.specs.OwnCaps.{cut}
 use Rattle.policy.specs.Timing.{Timing}
 

@@ -1,28 +1,41 @@
 // Policy kind 4: any policy, under caps of one's own.
 #![tactic(auto)]
 
-ghost use Rattle.std.specs.Prelude.{ℕ, ◌≤◌, ◌≡◌};
+ghost use Rattle.std.specs.Prelude.{◌≡◌};
 ghost use Rattle.capped.specs.Capping.{capped};
 ghost use Rattle.capped.specs.CappingLaw.{capped_lawful};
-ghost use Rattle.policy.specs.Timing.{Timing, Lawful, later};
-ghost use Rattle.policy.specs.declared.class.Class.TheVariants.{Critical, NonCritical};
+ghost use Rattle.policy.specs.FourNumbers.{raised};
+ghost use Rattle.policy.specs.Timing.{later};
+ghost use Rattle.setup.specs.declared.class.Class.TheVariants.{Critical, NonCritical};
 
 use policy::Policy;
-use policy::class::Class;
 use policy::own_caps::OwnCaps;
 use setup::bound::Caps;
+use setup::class::Class;
 use setup::kind::Kind;
-
-pub mod making;
 
 // The prover does not know the value of an associated constant of a generic impl, so that it has
 // this name besides, which the impl's methods read.
 const CAPPED: Kind = Kind { number: 4 };
 
-#[derive(Drop)]
+#[derive(Debug, Drop)]
 pub struct Capped<P: Policy> {
     below: P,
     own: OwnCaps,
+}
+
+impl<P: Policy> Capped<P> {
+    /// The policy below, its holds against critical requesters cut to caps.
+    pub fn over(below: P, caps: Caps) -> Self
+        ensures kind { ⟦<Self as Policy>⟧.kind ≡ 4 }
+        ensures timing { ⟦<Self as Policy>⟧.timing result ≡ capped (raised caps) (P.Policy.timing below) }
+        ensures below { result.below ≡ below }
+    {
+        Capped {
+            below,
+            own: OwnCaps::raised(caps),
+        }
+    }
 }
 
 impl<P: Policy> Policy for Capped<P> {
@@ -34,11 +47,8 @@ impl<P: Policy> Policy for Capped<P> {
 
     ghost lawful = { λ p. capped_lawful p.own.caps (P.Policy.timing p.below) p.own.some (P.Policy.lawful p.below) };
 
-    fn kind_number(&self) -> u8
-        ensures value { result ≡ 4 }
-        ensures some { 1 ≤ result }
-    {
-        CAPPED.number
+    fn kind_number(&self) -> Kind {
+        CAPPED
     }
 
     fn caps(&mut self) -> Caps
@@ -46,12 +56,7 @@ impl<P: Policy> Policy for Capped<P> {
         ensures same { capped self.new.own.caps (P.Policy.timing self.new.below) ≡ capped self.old.own.caps (P.Policy.timing self.old.below) }
         ensures below { P.Policy.timing self.new.below ≡ P.Policy.timing self.old.below }
     {
-        let own = self.own.caps();
-        let below = self.below.caps();
-        Caps {
-            critical: own.critical.min(below.critical),
-            noncritical: own.noncritical.min(below.noncritical),
-        }
+        self.own.caps().zip_with(self.below.caps(), u16::min)
     }
 
     fn holds(&mut self, core: usize, class: Class, line: usize) -> (u16, u16)

@@ -1,5 +1,5 @@
 // Memory kind 1: the caller's table of words.
-ghost use Rattle.std.specs.Prelude.{◌≡◌, ◌≤◌, length};
+ghost use Rattle.std.specs.Prelude.{◌≡◌, ◌≤◌, length, slice_get};
 ghost use Rattle.memory.specs.Words.{reading, storing, stored};
 ghost use Rattle.setup.specs.Refusals.{numbered};
 
@@ -21,6 +21,13 @@ impl<'a> WordTable<'a> {
         ensures table { result.table ≡ table.entry }
     {
         WordTable { table }
+    }
+
+    /// The word of a line, if there is such a line.
+    fn word(&self, line: usize) -> Option<u64>
+        ensures { result ≡ slice_get self.now.table.now line }
+    {
+        self.table.get(line).copied()
     }
 }
 
@@ -45,11 +52,7 @@ impl Memory for WordTable<'_> {
         ensures refused { length self.old.table.now ≤ line → self.new ≡ self.old }
         ensures kept { self.new ≡ self.old }
     {
-        if line < self.table.len() {
-            Ok(self.table[line])
-        } else {
-            Err(Refusal::PastMemory)
-        }
+        self.word(line).ok_or(Refusal::PastMemory)
     }
 
     fn store(&mut self, line: usize, word: u64) -> Result<(), Refusal>

@@ -1,8 +1,7 @@
 -- Kind 2: four numbers for each line from a table, cut to given caps.
 use Rattle.std.specs.Prelude.{ℕ, ◌+◌, ◌*◌, ◌/◌, cond, List, length, nat_lt, slice_index}
-use Rattle.setup.specs.declared.bound.Caps.{Caps}
-use Rattle.policy.specs.declared.holds.FourHolds.{FourHolds}
-use Rattle.policy.specs.FourNumbers.{number, Few}
+use Rattle.setup.specs.Bound.{Caps}
+use Rattle.policy.specs.FourNumbers.{FourHolds, number, Few}
 use Rattle.policy.specs.OwnCaps.{cut}
 use Rattle.policy.specs.Timing.{Timing}
 

@@ -2,7 +2,7 @@
 use Rattle.std.specs.Prelude.{ℕ, ◌+◌, ◌*◌, ◌/◌, List, length, nat_lt}
 use Rattle.std.proofs.Common.{arith}
 use Rattle.std.proofs.lemmas.Bool.{cond_both}
-use Rattle.setup.specs.declared.bound.Caps.{Caps}
+use Rattle.setup.specs.Bound.{Caps}
 use Rattle.policy.specs.FourNumbers.{FewHolds}
 use Rattle.policy.specs.FixedLaw.{few_number}
 use Rattle.policy.specs.OwnCaps.{SomeCaps, FewCaps, some_own, few_own, cut_few}

@@ -1,52 +1,57 @@
 // Policy kind 2: four numbers for each line, from the caller's table, cut to given caps.
 #![tactic(auto)]
 
-ghost use Rattle.std.specs.Prelude.{◌≡◌, ℕ, ◌≤◌};
+ghost use Rattle.std.specs.Prelude.{◌≡◌};
 ghost use Rattle.per_line.specs.PerLine.{line_holds, per_line, FewTable};
 ghost use Rattle.per_line.specs.PerLineLaw.{per_line_lawful};
-ghost use Rattle.policy.specs.Timing.{Timing, Lawful, later};
-ghost use Rattle.policy.specs.declared.class.Class.TheVariants.{Critical, NonCritical};
+ghost use Rattle.policy.specs.FourNumbers.{raised};
+ghost use Rattle.policy.specs.Timing.{later};
+ghost use Rattle.setup.specs.declared.class.Class.TheVariants.{Critical, NonCritical};
 
 use policy::Policy;
-use policy::class::Class;
 use policy::holds::{Against, FourHolds};
 use policy::own_caps::OwnCaps;
 use setup::bound::Caps;
+use setup::class::Class;
 use setup::kind::Kind;
 
-pub mod making;
-
-#[derive(Drop)]
+#[derive(Debug, Drop)]
 pub struct PerLine<'a> {
     table: &'a [u16],
     own: OwnCaps,
     ghost few: { FewTable table.now },
 }
 
-// The four holds of a line, or none where the table has not all four.
+/// The four holds of a line, or none where the table has not all four.
 fn holds_of(table: &[u16], line: usize) -> FourHolds
     ensures { result ≡ line_holds table.now line }
 {
-    if line < table.len() / 4 {
-        let at = 4 * line;
-        FourHolds {
+    let (lines, _) = table.as_chunks::<4>();
+    match lines.get(line) {
+        Some(&[cc, cn, nc, nn]) => FourHolds {
             critical: Against {
-                critical: table[at],
-                noncritical: table[at + 1],
+                critical: cc,
+                noncritical: cn,
             },
             noncritical: Against {
-                critical: table[at + 2],
-                noncritical: table[at + 3],
+                critical: nc,
+                noncritical: nn,
             },
-        }
-    } else {
-        let none = Against {
-            critical: 0,
-            noncritical: 0,
-        };
-        FourHolds {
-            critical: none,
-            noncritical: none,
+        },
+        None => FourHolds::default(),
+    }
+}
+
+impl<'a> PerLine<'a> {
+    /// The policy of a table with four numbers for each line, under caps.
+    pub fn over(table: &'a [u16], caps: Caps) -> PerLine<'a>
+        ensures kind { ⟦<Self as Policy>⟧.kind ≡ 2 }
+        ensures timing { ⟦<Self as Policy>⟧.timing result ≡ per_line table.now (raised caps) }
+        ensures table { result.table ≡ table.entry }
+    {
+        PerLine {
+            table,
+            own: OwnCaps::raised(caps),
         }
     }
 }
@@ -60,11 +65,8 @@ impl Policy for PerLine<'_> {
 
     ghost lawful = { λ p. per_line_lawful p.table.now p.own.caps p.few p.own.some p.own.few };
 
-    fn kind_number(&self) -> u8
-        ensures value { result ≡ 2 }
-        ensures some { 1 ≤ result }
-    {
-        <Self as Policy>::KIND.number
+    fn kind_number(&self) -> Kind {
+        <Self as Policy>::KIND
     }
 
     fn caps(&mut self) -> Caps
@@ -81,8 +83,8 @@ impl Policy for PerLine<'_> {
         ensures same { per_line self.new.table.now self.new.own.caps ≡ per_line self.old.table.now self.old.own.caps }
         ensures kept { self.new ≡ self.old }
     {
-        let holds = holds_of(self.table, line).pair(class);
-        self.own.cut(class, holds)
+        let holds = holds_of(self.table, line).of(class);
+        self.own.cut(class, holds.into())
     }
 
     fn slot_passed(&mut self)

@@ -10,7 +10,7 @@ pub enum Class {
 }
 
 /// Something for each class of cores.
-#[derive(Clone, Copy, Debug, PartialEq, Eq, Hash)]
+#[derive(Clone, Copy, Debug, Default, PartialEq, Eq, Hash)]
 pub struct ByClass<T> {
     pub critical: T,
     pub noncritical: T,
@@ -37,6 +37,19 @@ impl<T: Copy> ByClass<T> {
         ByClass {
             critical: f(self.critical),
             noncritical: f(self.noncritical),
+        }
+    }
+
+    /// What a function makes of two, class by class.
+    pub fn zip_with<U: Copy, V, F: Fn(T, U) -> V>(self, other: ByClass<U>, f: F) -> ByClass<V>
+        requires critical { F.pre f self.critical other.critical }
+        requires noncritical { F.pre f self.noncritical other.noncritical }
+        ensures critical { F.post f self.critical other.critical result.critical }
+        ensures noncritical { F.post f self.noncritical other.noncritical result.noncritical }
+    {
+        ByClass {
+            critical: f(self.critical, other.critical),
+            noncritical: f(self.noncritical, other.noncritical),
         }
     }
 }

@@ -1,8 +1,11 @@
-// One place of a last-level store: free, or holding one line's word.
-#[derive(Clone, Copy)]
-pub enum Place {
-    Free,
-    Holds { line: usize, word: u64 },
+// The places of a last-level store.
+
+/// The word of a line, held in place of the memory's.
+#[derive(Clone, Copy, Debug, PartialEq, Eq, Hash)]
+pub struct HeldWord {
+    pub line: usize,
+    pub word: u64,
 }
 
-pub(crate) mod moving;
+/// A place is free, or has one line's word.
+pub type Place = Option<HeldWord>;

@@ -1,49 +1,43 @@
-use Rattle.std.proofs.Common.{◌≡◌, ℕ, ◌<◌, ◌≢◌, List, length, get_or, sym, refl, ap, ◌∙◌, arith, below_more}
-use Rattle.std.proofs.lemmas.List.{length-set, get_or-set_same, get_or-set_other}
-use Rattle.store.specs.Overlay.{held, held_in, overlaid}
-use Rattle.store.specs.declared.place.Place.{Place}
-use Rattle.store.specs.declared.place.Place.TheVariants.{Free}
-use Rattle.store.proofs.Laid.{held_more, held_most, all_free, overlaid_free}
+use Rattle.std.proofs.Common.{◌≡◌, ◌+◌, None, length, get_or, sym, refl, ap, subst, ◌∙◌, arith}
+use Rattle.store.specs.Overlay.{held, overlaid, released}
+use Rattle.store.proofs.Laid.{Cleaned, cleaned_more, held_most, all_freed, overlaid_free}
 use Rattle.store.proofs.last_level.LastLevelStore.clean.Goals as goal
+
+pub loop-place-init : goal.loop-place-init
+loop-place-init g c = (record { meaning = refl; size = refl; count = refl; few = omega arith }, c.replace-places.ensures.after)
 
 pub overflow_add-stored : goal.overflow_add-stored
 overflow_add-stored g c =
-    let v = c.loop-i.invariant in
-    let s = c.release-stored.ensures in
-    omega (arith, v.5, s.value, held_most (length (g.M.Memory.words c.loop-i.self.below)) (get_or c.loop-i.self.places c.loop-i.i Free))
+    let few = held_most (length (g.M.Memory.words c.loop-place.self.below)) (get_or c.replace-places.result c.loop-place.place-index None) in
+    omega (arith, c.loop-place.invariant.0.few, c.send_below-stored.ensures.value, few)
 
-pub loop-i-init : goal.loop-i-init
-loop-i-init g c = (refl, refl, c.args.self.now.sixteen, λ k h. absurd (omega arith), λ k h. refl, omega arith, refl)
-
-pub loop-i-preserved : goal.loop-i-preserved
-loop-i-preserved g c =
-    let v = c.loop-i.invariant in
-    let s = c.release-stored.ensures in
-    let ps = c.loop-i.self.places in
-    let i = c.loop-i.i in
-    let count = length (g.M.Memory.words c.args.self.now.below) in
-    let h : held (length (g.M.Memory.words c.loop-i.self.below)) (get_or ps i Free) ≡ held count (get_or c.args.self.now.places i Free) = ap (λ n. held n (get_or ps i Free)) v.6 ∙ ap (held count) (v.4 i (omega arith)) in
-    let lt : i < length ps = omega (arith, v.2) in
-    let other : (k : ℕ) → (k ≡ i → ⊥) → get_or c.release-stored.new.self.places k Free ≡ get_or ps k Free = λ k n. let ne : k ≢ i = n in ap (λ (qs : List Place). get_or qs k Free) s.places ∙ get_or-set_other ps i k Free Free ne in (
-      s.meaning ∙ v.0,
-      omega (arith, v.1, s.value, h, held_more count c.args.self.now.places i),
-      ap length s.places ∙ length-set ps i Free ∙ v.2,
-      below_more _ _
-          (λ k b. other k (λ e. omega arith) ∙ v.3 k b)
-          (ap (λ (qs : List Place). get_or qs i Free) s.places ∙ get_or-set_same ps i Free Free lt),
-      (λ k b. other k (λ e. omega arith) ∙ v.4 k (omega arith)),
-      omega (arith, v.5, s.value, held_most (length (g.M.Memory.words c.loop-i.self.below)) (get_or ps i Free)),
-      s.count ∙ v.6,
+pub loop-place-preserved : goal.loop-place-preserved
+loop-place-preserved g c =
+    let s = c.args.self.now in
+    let ws = g.M.Memory.words s.below in
+    let vs = g.M.Memory.words c.loop-place.self.below in
+    let i = c.loop-place.place-index in
+    let sent = c.send_below-stored.ensures in
+    let place : get_or c.replace-places.result i None ≡ get_or s.places i None = ap (λ ps. get_or ps i None) c.replace-places.ensures.value in
+    let value = sent.value ∙ ap (held (length vs)) place in
+    let more = cleaned_more ws s.places i vs c.loop-place.stored c.send_below-stored.result c.loop-place-test.true s.sixteen s.fitting value c.loop-place.invariant.0 in (
+      subst (λ below. Cleaned ws s.places (i + 1) below (c.loop-place.stored + c.send_below-stored.result)) (sym (sent.below ∙ ap (released vs) place)) more,
+      sent.places ∙ c.loop-place.invariant.1,
     )
 
 pub returns : goal.returns
 returns g c =
-    let v = c.loop-i.invariant in
-    let e : c.loop-i.i ≡ 16 = omega arith in
-    let free = all_free c.loop-i.self.places v.2 (λ k b. v.3 k (omega arith)) in
+    let s = c.args.self.now in
+    let ws = g.M.Memory.words s.below in
+    let v = c.loop-place.invariant.0 in
+    let free = c.loop-place.invariant.1 in
+    let vs = g.M.Memory.words c.loop-place.self.below in
+    let end : c.loop-place.place-index ≡ 16 = omega arith in
+    let done : Cleaned ws s.places 16 vs c.loop-place.stored = subst (λ n. Cleaned ws s.places n vs c.loop-place.stored) end v in
+    let below : vs ≡ overlaid ws s.places = sym (ap (overlaid vs) (all_freed s.places s.sixteen) ∙ overlaid_free vs) ∙ done.meaning in
     record {
-      value = v.1 ∙ ap (held_in (length (g.M.Memory.words c.args.self.now.below)) c.args.self.now.places) e;
-      meaning = v.0;
-      below = sym (overlaid_free _) ∙ ap (overlaid (g.M.Memory.words c.loop-i.self.below)) (sym free) ∙ v.0;
+      value = done.count;
+      meaning = ap (overlaid vs) free ∙ (overlaid_free vs ∙ below);
+      below = below;
       places = free;
     }
