@@ -28,3 +28,8 @@ stands map weight = not (bit_and map weight == 0)
 abbrev pub seen : {A : Type 0} → Option (A × Bor (List ℕ)) → Parsed A
 seen None = None
 seen (Some p) = Some (p.0, p.1.now)
+
+-- what a reader answered, with the bytes that it has left
+abbrev pub parsed : {A : Type 0} → Option A → List ℕ → Parsed A
+parsed None left = None
+parsed (Some a) left = Some (a, left)
