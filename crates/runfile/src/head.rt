@@ -18,17 +18,18 @@ pub struct Head {
 /// The most bytes that a run file may have.
 const MOST_BYTES: usize = 65536;
 
-// The fields in their order, by bit and default. The holds are four fields under one bit.
+// The fields in their order in the file. The four holds stand under one bit.
 const CORES: Field<1> = Field { bit: 1, absent: 4 };
 
 const CRITICAL: Field<1> = Field { bit: 2, absent: 2 };
 
 const LINES: Field<1> = Field { bit: 4, absent: 32 };
 
-const WIDTH: Field<2> = Field { bit: 8, absent: 50 };
+const SLOT_WIDTH: Field<2> = Field { bit: 8, absent: 50 };
 
 const HOLDS: u8 = 16;
 
+/// The holds of a head that has none.
 const ABSENT_HOLDS: FourHolds = FourHolds {
     critical: Against {
         critical: 4,
@@ -52,6 +53,7 @@ pub fn read_head(file: &[u8]) -> Result<(Head, &[u8]), Refusal>
     head_of(file)
 }
 
+// The value alone, from which the law of written heads is shown.
 fn head_of(file: &[u8]) -> Result<(Head, &[u8]), Refusal>
     ensures { outcome result ≡ reading file.now }
 {
@@ -73,7 +75,7 @@ fn parse(bytes: &[u8]) -> Option<(Head, &[u8])>
     Some((Head { draft, holds }, reader.rest))
 }
 
-// After a `None` it is left open how far the reader came: the file is refused, and nobody reads on.
+// After a `None` it is left open what a reader has left: the file is refused, and nobody reads on.
 impl Reader<'_> {
     fn draft(&mut self) -> Option<Draft>
         ensures value { parsed result self.new.rest.now ≡ draft_of self.old.map self.old.rest.now }
@@ -83,7 +85,7 @@ impl Reader<'_> {
             cores: self.number(&CORES)? as u32,
             critical: self.number(&CRITICAL)? as u32,
             lines: self.number(&LINES)? as u32,
-            width: self.number(&WIDTH)? as u32,
+            width: self.number(&SLOT_WIDTH)? as u32,
         })
     }
 
@@ -98,7 +100,8 @@ impl Reader<'_> {
     }
 
     fn against(&mut self, absent: Against) -> Option<Against>
-        ensures value { parsed result self.new.rest.now ≡ against_of (stands self.old.map 16) absent self.old.rest.now }
+        ensures value { parsed result self.new.rest.now
+            ≡ against_of (stands self.old.map HOLDS) absent self.old.rest.now }
         ensures map { self.new.map ≡ self.old.map }
     {
         Some(Against {
@@ -108,13 +111,14 @@ impl Reader<'_> {
     }
 
     fn hold(&mut self, absent: u16) -> Option<u16>
-        ensures value { parsed result self.new.rest.now ≡ field (stands self.old.map 16) 2 absent self.old.rest.now }
+        ensures value { parsed result self.new.rest.now
+            ≡ field (stands self.old.map HOLDS) 2 absent self.old.rest.now }
         ensures map { self.new.map ≡ self.old.map }
     {
-        let field = Field::<2> {
+        let hold = Field::<2> {
             bit: HOLDS,
             absent: u64::from(absent),
         };
-        Some(self.number(&field)? as u16)
+        Some(self.number(&hold)? as u16)
     }
 }

@@ -1,5 +1,5 @@
 // Reading the fields of a run file. A number of several bytes has its highest byte in front.
-ghost use Rattle.std.specs.Prelude.{MatchOption, ◌≡◌, ◌^◌, ◌<◌, ◌≤◌, IfSome, IfNone};
+ghost use Rattle.std.specs.Prelude.{◌≡◌, ◌^◌, ◌<◌, ◌≤◌, MatchOption, IfSome, IfNone};
 ghost use Rattle.std.specs.Int.Digits.{number_from_digits};
 ghost use Rattle.runfile.specs.Fields.{fixed, field, stands, parsed};
 
@@ -8,8 +8,8 @@ ghost use Rattle.runfile.specs.Fields.{fixed, field, stands, parsed};
 pub(crate) struct Field<const WIDTH: usize> {
     pub(crate) bit: u8,
     pub(crate) absent: u64,
-    ghost fits: { absent < 256 ^ WIDTH },
     ghost narrow: { WIDTH ≤ 8 },
+    ghost fits: { absent < 256 ^ WIDTH },
 }
 
 /// The fields that are still to be read.
@@ -24,7 +24,8 @@ pub(crate) struct Reader<'a> {
 impl<'a> Reader<'a> {
     /// A reader of the fields behind the map byte that these bytes begin with.
     pub(crate) fn new(bytes: &'a [u8]) -> Option<Self>
-        ensures { MatchOption result (fixed 1 bytes.now ≡ None) (λ reader. fixed 1 bytes.now ≡ Some (reader.map, reader.rest.now)) }
+        ensures { MatchOption result (fixed 1 bytes.now ≡ None)
+            (λ reader. fixed 1 bytes.now ≡ Some (reader.map, reader.rest.now)) }
     {
         let (&map, rest) = bytes.split_first()?;
         Some(Reader { map, rest })
@@ -32,8 +33,9 @@ impl<'a> Reader<'a> {
 
     /// The number of a field, or its default where it is absent.
     pub(crate) fn number<const WIDTH: usize>(&mut self, which: &Field<WIDTH>) -> Option<u64>
-        ensures value { parsed result self.new.rest.now ≡ field (stands self.old.map which.now.bit) WIDTH which.now.absent self.old.rest.now }
-        ensures fits { IfSome result (λ n. n < 256 ^ WIDTH) }
+        ensures value { parsed result self.new.rest.now
+            ≡ field (stands self.old.map which.now.bit) WIDTH which.now.absent self.old.rest.now }
+        ensures fits { IfSome result (λ number. number < 256 ^ WIDTH) }
         ensures map { self.new.map ≡ self.old.map }
         ensures none { IfNone result (self.new ≡ self.old) }
     {

@@ -7,4 +7,4 @@ overflow_mul-number g c =
     let i = c.loop-byte.byte-index in
     let in_eight : suc i ≤ 8 = omega arith in
     let most : 256 ^ suc i ≤ 256 ^ 8 = pow-le-pow_right (omega arith) in_eight in
-    omega (arith, rw pow-suc at most)
+    omega (arith, rw (pow-suc 256 i) at most)
