@@ -12,7 +12,7 @@ use listing::line::{HubLine, Line};
 use memory::Memory;
 use policy::Policy;
 use policy::fixed::Fixed;
-use runfile::head::reading::read_head;
+use runfile::head::read_head;
 use setup::checked::SetUp;
 use setup::checked::checking::check;
 use setup::refusal::Refusal;

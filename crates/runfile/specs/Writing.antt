@@ -1,5 +1,5 @@
 -- A head as somebody writes it down, field by field.
-use Rattle.std.specs.Prelude.{ℕ, ◌+◌, ◌/◌, ◌%◌, Bool, cond, List, [], ◌∷◌, ◌++◌, is_some, Some, None, Option}
+use Rattle.std.specs.Prelude.{ℕ, ◌+◌, ◌/◌, ◌%◌, Bool, if◌then◌else◌, List, [], ◌∷◌, ◌++◌, is_some, Some, None, Option}
 use Rattle.std.specs.Option.{unwrap_or}
 use Rattle.policy.specs.declared.holds.FourHolds.{FourHolds}
 use Rattle.runfile.specs.declared.head.Head.{Head}
@@ -13,7 +13,7 @@ pub record Fields : Type 0 where
   pub holds : Option FourHolds
 
 abbrev pub bit : Bool → ℕ → ℕ
-bit present weight = cond present weight 0
+bit present weight = if present then weight else 0
 
 abbrev pub map_of : Bool → Bool → Bool → Bool → Bool → ℕ
 map_of a b c d e = bit a 1 + bit b 2 + bit c 4 + bit d 8 + bit e 16

@@ -2,5 +2,5 @@
 // stand in it.
 #![tactic(auto)]
 
-mod field;
 pub mod head;
+mod reader;

@@ -1,5 +1,0 @@
-use Rattle.runfile.proofs.WrittenHead.{reads_what_was_written}
-use Rattle.runfile.proofs.head.reading.read_head.Goals as goal
-
-pub returns : goal.returns
-returns c = record { value = c.head_of.ensures; written = reads_what_was_written _ _ c.head_of.ensures }
