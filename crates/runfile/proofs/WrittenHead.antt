@@ -2,7 +2,7 @@
 use Rattle.std.proofs.Common.{◌≡◌, ℕ, ◌≤◌, Bool, true, nat_lt, List, ◌∷◌, ◌++◌, length, is_some, Some, None, Ok, Option, Result, unwrap_or, refl, ◌∙◌, arith}
 use Rattle.std.proofs.lemmas.Bool.{le-leb}
 use Rattle.std.proofs.lemmas.Grind.{common_steps}
-use Rattle.policy.specs.declared.holds.FourHolds.{FourHolds}
+use Rattle.policy.specs.FourNumbers.{FourHolds}
 use Rattle.runfile.specs.Fields.{fixed, field, stands}
 use Rattle.runfile.specs.Head.{draft_of, holds_of, head, reading}
 use Rattle.runfile.specs.declared.head.Head.{Head}

@@ -2,8 +2,7 @@
 use Rattle.std.specs.Prelude.{ℕ, Bool, if◌then◌else◌, List, length, Some, None, Ok, Err, Result, nat_le, nat_lt}
 use Rattle.std.specs.Borrow.{Bor}
 use Rattle.std.specs.Option.{ok_or}
-use Rattle.policy.specs.declared.holds.Against.{Against}
-use Rattle.policy.specs.declared.holds.FourHolds.{FourHolds}
+use Rattle.policy.specs.FourNumbers.{Against, FourHolds}
 use Rattle.setup.specs.Refusals.{number}
 use Rattle.setup.specs.declared.draft.Draft.{Draft}
 use Rattle.setup.specs.declared.refusal.Refusal.{Refusal}

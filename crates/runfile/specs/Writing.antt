@@ -1,7 +1,7 @@
 -- A head as somebody writes it down, field by field.
 use Rattle.std.specs.Prelude.{ℕ, ◌+◌, ◌/◌, ◌%◌, Bool, if◌then◌else◌, List, [], ◌∷◌, ◌++◌, is_some, Some, None, Option}
 use Rattle.std.specs.Option.{unwrap_or}
-use Rattle.policy.specs.declared.holds.FourHolds.{FourHolds}
+use Rattle.policy.specs.FourNumbers.{FourHolds}
 use Rattle.runfile.specs.declared.head.Head.{Head}
 
 -- the fields that are there

@@ -9,7 +9,7 @@ use policy::holds::{Against, FourHolds};
 use setup::draft::Draft;
 use setup::refusal::Refusal;
 
-#[derive(Clone, Copy)]
+#[derive(Clone, Copy, Debug, PartialEq, Eq, Hash)]
 pub struct Head {
     pub draft: Draft,
     pub holds: FourHolds,
