@@ -83,7 +83,6 @@ impl Policy for Alternating {
 
     fn caps(&mut self) -> Caps
         ensures value { result ≡ (alternating self.old.schedule).caps }
-        ensures same { alternating self.new.schedule ≡ alternating self.old.schedule }
         ensures kept { self.new ≡ self.old }
     {
         let first = caps_of(self.schedule.first.holds);
@@ -94,15 +93,12 @@ impl Policy for Alternating {
     fn holds(&mut self, core: usize, class: Class, line: usize) -> (u16, u16)
         ensures critical { result.0 ≡ (alternating self.old.schedule).hold 0 core class line Critical }
         ensures noncritical { result.1 ≡ (alternating self.old.schedule).hold 0 core class line NonCritical }
-        ensures same { alternating self.new.schedule ≡ alternating self.old.schedule }
         ensures kept { self.new ≡ self.old }
     {
         self.ruling().of(class).into()
     }
 
-    fn slot_passed(&mut self)
-        ensures { alternating self.new.schedule ≡ later (alternating self.old.schedule) }
-    {
+    fn slot_passed(&mut self) {
         self.advance();
     }
 }

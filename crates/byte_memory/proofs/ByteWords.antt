@@ -21,8 +21,8 @@ row_word : (bs digits : List ℕ) (line : ℕ) → line < length bs / 8 → digi
     → from_be_bytes w64 digits ≡ word bs line
 row_word bs digits line inside row =
     let byte : (j : ℕ) → j < 8 → get_or digits j 0 ≡ get_or bs (8 * line + j) 0 = λ j within.
-        let place : line * 8 + j ≡ 8 * line + j = omega arith in
-        ap (λ ds. get_or ds j 0) row ∙ (number_at 8 (length bs / 8) line j bs digits inside within ∙ ap (λ m. get_or bs m 0) place) in
+    let place : line * 8 + j ≡ 8 * line + j = omega arith in
+    ap (λ ds. get_or ds j 0) row ∙ (number_at 8 (length bs / 8) line j bs digits inside within ∙ ap (λ m. get_or bs m 0) place) in
     let start : 8 * line + 0 ≡ 8 * line = omega arith in
     let first : get_or digits 0 0 ≡ get_or bs (8 * line) 0 = byte 0 (omega arith) ∙ ap (λ m. get_or bs m 0) start in
     omega (arith, first, byte 1 (omega arith), byte 2 (omega arith), byte 3 (omega arith), byte 4 (omega arith), byte 5 (omega arith), byte 6 (omega arith), byte 7 (omega arith))

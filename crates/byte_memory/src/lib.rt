@@ -63,8 +63,6 @@ impl Memory for ByteTable<'_> {
 
     fn read(&mut self, line: usize) -> Result<u64, Refusal>
         ensures value { numbered result ≡ reading (words self.old.bytes.now) line }
-        ensures same { words self.new.bytes.now ≡ words self.old.bytes.now }
-        ensures refused { length (words self.old.bytes.now) ≤ line → self.new ≡ self.old }
         ensures kept { self.new ≡ self.old }
     {
         self.word(line).ok_or(Refusal::PastMemory)

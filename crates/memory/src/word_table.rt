@@ -48,8 +48,6 @@ impl Memory for WordTable<'_> {
 
     fn read(&mut self, line: usize) -> Result<u64, Refusal>
         ensures value { numbered result ≡ reading self.old.table.now line }
-        ensures same { self.new.table.now ≡ self.old.table.now }
-        ensures refused { length self.old.table.now ≤ line → self.new ≡ self.old }
         ensures kept { self.new ≡ self.old }
     {
         self.word(line).ok_or(Refusal::PastMemory)

@@ -71,7 +71,6 @@ impl Policy for PerLine<'_> {
 
     fn caps(&mut self) -> Caps
         ensures value { result ≡ (per_line self.old.table.now self.old.own.caps).caps }
-        ensures same { per_line self.new.table.now self.new.own.caps ≡ per_line self.old.table.now self.old.own.caps }
         ensures kept { self.new ≡ self.old }
     {
         self.own.caps()
@@ -80,7 +79,6 @@ impl Policy for PerLine<'_> {
     fn holds(&mut self, core: usize, class: Class, line: usize) -> (u16, u16)
         ensures critical { result.0 ≡ (per_line self.old.table.now self.old.own.caps).hold 0 core class line Critical }
         ensures noncritical { result.1 ≡ (per_line self.old.table.now self.old.own.caps).hold 0 core class line NonCritical }
-        ensures same { per_line self.new.table.now self.new.own.caps ≡ per_line self.old.table.now self.old.own.caps }
         ensures kept { self.new ≡ self.old }
     {
         let holds = holds_of(self.table, line).of(class);

@@ -43,7 +43,6 @@ impl Policy for Fixed {
 
     fn caps(&mut self) -> Caps
         ensures value { result ≡ (fixed self.old.holds).caps }
-        ensures same { fixed self.new.holds ≡ fixed self.old.holds }
         ensures kept { self.new ≡ self.old }
     {
         caps_of(self.holds)
@@ -52,7 +51,6 @@ impl Policy for Fixed {
     fn holds(&mut self, core: usize, class: Class, line: usize) -> (u16, u16)
         ensures critical { result.0 ≡ (fixed self.old.holds).hold 0 core class line Critical }
         ensures noncritical { result.1 ≡ (fixed self.old.holds).hold 0 core class line NonCritical }
-        ensures same { fixed self.new.holds ≡ fixed self.old.holds }
         ensures kept { self.new ≡ self.old }
     {
         self.holds.of(class).into()

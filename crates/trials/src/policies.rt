@@ -3,10 +3,11 @@ use alternating::Alternating;
 use capped::Capped;
 use per_line::PerLine;
 use policy::Policy;
-use policy::class::Class;
 use policy::fixed::Fixed;
 use policy::holds::{Against, FourHolds};
 use setup::bound::Caps;
+use setup::class::Class;
+use std::process::Abort;
 
 fn four(cc: u16, cn: u16, nc: u16, nn: u16) -> FourHolds {
     FourHolds {
@@ -21,74 +22,75 @@ fn four(cc: u16, cn: u16, nc: u16, nn: u16) -> FourHolds {
     }
 }
 
-fn has_caps<P: Policy>(policy: &mut P, critical: u16, noncritical: u16) -> bool {
-    let caps = policy.caps();
-    (caps.critical == critical) & (caps.noncritical == noncritical)
+fn assert_caps<P: Policy>(rt: &impl Abort, policy: &mut P, critical: u16, noncritical: u16) {
+    let expected = Caps {
+        critical,
+        noncritical,
+    };
+    assert_eq!(rt; policy.caps(), expected);
 }
 
 // The holds for now on a line, of critical and of non-critical holders.
-fn holds<P: Policy>(policy: &mut P, line: usize, expected: [u16; 4]) -> bool {
+fn assert_holds<P: Policy>(rt: &impl Abort, policy: &mut P, line: usize, expected: [u16; 4]) {
     let (cc, cn) = policy.holds(0, Class::Critical, line);
     let (nc, nn) = policy.holds(7, Class::NonCritical, line);
-    [cc, cn, nc, nn] == expected
+    assert_eq!(rt; [cc, cn, nc, nn], expected);
 }
 
-fn holds_after_a_slot<P: Policy>(policy: &mut P, expected: [u16; 4]) -> bool {
+fn assert_holds_after_a_slot<P: Policy>(rt: &impl Abort, policy: &mut P, expected: [u16; 4]) {
     policy.slot_passed();
-    holds(policy, 0, expected)
+    assert_holds(rt, policy, 0, expected);
 }
 
 #[test]
 fn policies_have_their_kinds(rt: HostRuntime) {
-    let plain = (<Fixed as Policy>::KIND.number == 1) & (<PerLine as Policy>::KIND.number == 2);
-    assert!(rt;
-        plain
-            & (<Alternating as Policy>::KIND.number == 3)
-            & (<Capped<Fixed> as Policy>::KIND.number == 4)
-    );
+    assert_eq!(rt; <Fixed as Policy>::KIND.number(), 1);
+    assert_eq!(rt; <PerLine as Policy>::KIND.number(), 2);
+    assert_eq!(rt; <Alternating as Policy>::KIND.number(), 3);
+    assert_eq!(rt; <Capped<Fixed> as Policy>::KIND.number(), 4);
 }
 
 #[test]
 fn fixed_holds_stay(rt: HostRuntime) {
     let mut policy = Fixed::of(four(0, 8, 2, 4));
-    let first = has_caps(&mut policy, 1, 2) & holds(&mut policy, 31, [0, 8, 2, 4]);
-    assert!(rt; first & holds_after_a_slot(&mut policy, [0, 8, 2, 4]));
+    assert_caps(&rt, &mut policy, 1, 2);
+    assert_holds(&rt, &mut policy, 31, [0, 8, 2, 4]);
+    assert_holds_after_a_slot(&rt, &mut policy, [0, 8, 2, 4]);
 }
 
 #[test]
 fn holds_by_line_are_cut_to_the_caps(rt: HostRuntime) {
     let table = [1, 2, 3, 4, 50, 60, 70, 80, 5, 6, 7];
-    let mut policy = PerLine::over(
-        &table,
-        Caps {
-            critical: 9,
-            noncritical: 0,
-        },
-    );
-    let whole = holds(&mut policy, 0, [1, 2, 1, 4]) & holds(&mut policy, 1, [9, 60, 1, 80]);
-    assert!(rt; has_caps(&mut policy, 9, 1) & whole & holds(&mut policy, 2, [0, 0, 0, 0]));
+    let caps = Caps {
+        critical: 9,
+        noncritical: 0,
+    };
+    let mut policy = PerLine::over(&table, caps);
+    assert_holds(&rt, &mut policy, 0, [1, 2, 1, 4]);
+    assert_holds(&rt, &mut policy, 1, [9, 60, 1, 80]);
+    assert_caps(&rt, &mut policy, 9, 1);
+    assert_holds(&rt, &mut policy, 2, [0, 0, 0, 0]);
 }
 
 #[test]
 fn two_sets_rule_in_turn(rt: HostRuntime) {
     let mut policy = Alternating::of(four(1, 1, 1, 1), 2, four(5, 6, 7, 8), 0);
-    let first = has_caps(&mut policy, 5, 7)
-        & holds(&mut policy, 0, [1, 1, 1, 1])
-        & holds_after_a_slot(&mut policy, [1, 1, 1, 1]);
-    let second = holds_after_a_slot(&mut policy, [5, 6, 7, 8]);
-    assert!(rt; first & second & holds_after_a_slot(&mut policy, [1, 1, 1, 1]));
+    assert_caps(&rt, &mut policy, 5, 7);
+    assert_holds(&rt, &mut policy, 0, [1, 1, 1, 1]);
+    assert_holds_after_a_slot(&rt, &mut policy, [1, 1, 1, 1]);
+    assert_holds_after_a_slot(&rt, &mut policy, [5, 6, 7, 8]);
+    assert_holds_after_a_slot(&rt, &mut policy, [1, 1, 1, 1]);
 }
 
 #[test]
 fn caps_of_its_own_over_two_sets(rt: HostRuntime) {
     let below = Alternating::of(four(1, 1, 1, 1), 1, four(5, 6, 7, 8), 1);
-    let mut policy = Capped::over(
-        below,
-        Caps {
-            critical: 3,
-            noncritical: 65535,
-        },
-    );
-    let first = has_caps(&mut policy, 3, 7) & holds(&mut policy, 0, [1, 1, 1, 1]);
-    assert!(rt; first & holds_after_a_slot(&mut policy, [3, 6, 7, 8]));
+    let caps = Caps {
+        critical: 3,
+        noncritical: 65535,
+    };
+    let mut policy = Capped::over(below, caps);
+    assert_caps(&rt, &mut policy, 3, 7);
+    assert_holds(&rt, &mut policy, 0, [1, 1, 1, 1]);
+    assert_holds_after_a_slot(&rt, &mut policy, [3, 6, 7, 8]);
 }
