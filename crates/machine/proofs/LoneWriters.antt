@@ -3,8 +3,8 @@ use Rattle.std.proofs.Common.{◌≡◌, ℕ, ◌≤◌, Bool, true, false, cond
 use Rattle.setup.specs.declared.refusal.Refusal.{Refusal}
 use Rattle.machine.specs.declared.call.Call.TheVariants.{StateOf}
 use Rattle.machine.specs.declared.held.Held.{Held}
-use Rattle.machine.specs.declared.held.Held.TheVariants.{Nothing, Copy}
 use Rattle.machine.specs.declared.op.Op.TheVariants.{Read, Write}
+use Rattle.machine.specs.declared.op.Role.{Role}
 use Rattle.machine.specs.declared.op.Role.TheVariants.{Reader, Writer}
 use Rattle.machine.specs.declared.reply.Reply.{Reply}
 use Rattle.machine.specs.declared.reply.Reply.TheVariants.{Code}
@@ -16,12 +16,12 @@ use Rattle.machine.specs.History.{sizes}
 use Rattle.machine.specs.LoneWriters.{Writers, in_m, in_mti, Copied, writers, in_s, in_sti, WritersAreAlone}
 use Rattle.machine.specs.Machine.{step}
 use Rattle.machine.specs.Parts.{word_in}
-use Rattle.machine.specs.Questions.{request_code, is_called_for, code_of, telling_state}
+use Rattle.machine.specs.Questions.{request_code, copy_code, is_called_for, code_of, telling_state}
 use Rattle.machine.specs.State.{State, unchanged}
 use Rattle.machine.proofs.Coherence.{nothing, writes}
 use Rattle.machine.proofs.CoherentCalls.{story}
 use Rattle.machine.proofs.Counting.{never}
-use Rattle.machine.proofs.Shapes.{shape}
+use Rattle.machine.proofs.Shapes.{shape_of, shape}
 
 -- no code of a request is a copy's
 pub data Copyless (n : ℕ) : Type 0 where
@@ -44,21 +44,20 @@ copyless_not n k (copyless (inr e)) same low high = omega arith
 
 module _ (z : Sizes) (s : State) (i l : ℕ) where
   -- a copy's code is told of a copy alone, and a writer's of a writer's
-  code_copied : (x : Held) (k : ℕ) → code_of z s i l x ≡ k → 1 ≤ k → k ≤ 4 → shape x ≡ nothing → ⊥
-  code_copied Nothing k e low high none = copyless_not (request_code l (s.requests i)) k (request_copyless l (s.requests i)) e low high
-  code_copied (Copy Reader w t) k e low high none = never cc
-  code_copied (Copy Writer w t) k e low high none = never cc
+  code_copied : (x : Option Held) (k : ℕ) → code_of z s i l x ≡ k → 1 ≤ k → k ≤ 4 → shape x ≡ nothing → ⊥
+  code_copied None k e low high none = copyless_not (request_code l (s.requests i)) k (request_copyless l (s.requests i)) e low high
+  code_copied (Some copy) k e low high none = grind arith
 
-  code_writers : (x : Held) (k : ℕ) → code_of z s i l x ≡ k → (k ≡ 2) ⊎ (k ≡ 4) → shape x ≡ writes (word_in x)
-  code_writers Nothing k e d =
+  code_writers : (x : Option Held) (k : ℕ) → code_of z s i l x ≡ k → (k ≡ 2) ⊎ (k ≡ 4) → shape x ≡ writes (word_in x)
+  code_writers None k e d =
       absurd (copyless_not (request_code l (s.requests i)) k (request_copyless l (s.requests i)) e
       (elim d [ inl a ↦ omega arith | inr a ↦ omega arith ]) (elim d [ inl a ↦ omega arith | inr a ↦ omega arith ]))
-  code_writers (Copy Reader w t) k e d = absurd (go (is_called_for z s i l (Copy Reader w t)) e)
+  code_writers (Some copy) k e d = go copy.role (is_called_for z s i l (Some copy)) e
     where
-      go : (t : Bool) → cond t 3 1 ≡ k → ⊥
-      go true e = elim d [ inl a ↦ omega arith | inr a ↦ omega arith ]
-      go false e = elim d [ inl a ↦ omega arith | inr a ↦ omega arith ]
-  code_writers (Copy Writer w t) k e d = refl
+      go : (r : Role) (t : Bool) → copy_code r t ≡ k → shape_of r copy.word ≡ writes copy.word
+      go Writer t e = refl
+      go Reader true e = absurd (elim d [ inl a ↦ omega arith | inr a ↦ omega arith ])
+      go Reader false e = absurd (elim d [ inl a ↦ omega arith | inr a ↦ omega arith ])
 
   -- the question for the state tells the code
   told_code : (k : ℕ) → (step z (StateOf i l) s).reply ≡ Code k → code_of z s i l (s.copies l i) ≡ k

@@ -1,15 +1,13 @@
 -- A request that waits goes on waiting and counts the slots, until a done slot of its core.
-use Rattle.std.proofs.Common.{◌≡◌, ℕ, suc, ◌+◌, min, true, false, cond, ◌≢◌, ◌⊎◌, [], ◌∷◌, ◌++◌, Some, None, Option, sym, refl, ap, subst, inl, inr, arith}
+use Rattle.std.proofs.Common.{◌≡◌, ℕ, suc, ◌+◌, min, true, false, cond, ◌≢◌, ◌⊎◌, [], ◌∷◌, ◌++◌, Some, None, Option, sym, refl, ap, subst, inl, inr, arith, Bool}
 use Rattle.std.proofs.lemmas.Bool.{eq-eqb, cases_eq}
 use Rattle.setup.specs.declared.refusal.Refusal.{Refusal}
 use Rattle.policy.specs.declared.class.Class.{Class}
 use Rattle.machine.specs.declared.call.Call.{Call}
 use Rattle.machine.specs.declared.call.Call.TheVariants.{Ask, Slot, Settle, WordOf, StateOf, BoundOf}
 use Rattle.machine.specs.declared.held.Held.{Held}
-use Rattle.machine.specs.declared.held.Held.TheVariants.{Nothing, Copy}
 use Rattle.machine.specs.declared.op.Op.{Op}
 use Rattle.machine.specs.declared.op.Op.TheVariants.{Read, Write}
-use Rattle.machine.specs.declared.op.Role.TheVariants.{Reader, Writer}
 use Rattle.machine.specs.declared.reply.AskAnswer.TheVariants.{Waits}
 use Rattle.machine.specs.declared.reply.Reply.TheVariants.{ToAsk}
 use Rattle.machine.specs.declared.request.Request.{Request}
@@ -17,13 +15,13 @@ use Rattle.machine.specs.declared.request.Request.TheVariants.{Free, Asked, Orde
 use Rattle.machine.specs.declared.sizes.Sizes.{Sizes}
 use Rattle.machine.specs.Answering.{Served, before}
 use Rattle.machine.specs.Arbitration.{user_of, move_mark}
-use Rattle.machine.specs.Asking.{unless, ask_refusal, accepted, asking}
+use Rattle.machine.specs.Asking.{unless, ask_refusal, new_request, write_hit, accepted, asking}
 use Rattle.machine.specs.Grant.{step_up, grant}
 use Rattle.machine.specs.Granting.{is_granted}
 use Rattle.machine.specs.History.{Start, sizes, event, History, From, is_slot, slots}
 use Rattle.machine.specs.Machine.{step}
 use Rattle.machine.specs.Order.{ordered_behind, queue_length, order}
-use Rattle.machine.specs.Parts.{is_waiting, line_of, wait_of}
+use Rattle.machine.specs.Parts.{is_writer, is_waiting, line_of, wait_of}
 use Rattle.machine.specs.Places.{put}
 use Rattle.machine.specs.Questions.{telling_word, telling_state}
 use Rattle.machine.specs.Settling.{settling}
@@ -89,7 +87,7 @@ module _ (z : Sizes) (i : ℕ) where
         | Some u ↦ still_try (order z (move_mark z (tick s) u) u) u (tick_wait w) (still_order (move_mark z (tick s) u) u (tick_wait w) y)
       ]
 
-  still_accepted : (s : State) (j l w : ℕ) (o : Op) (x : Held) → is_waiting (s.requests j) ≡ false → Still (s.requests i) w
+  still_accepted : (s : State) (j l w : ℕ) (o : Op) (x : Option Held) → is_waiting (s.requests j) ≡ false → Still (s.requests i) w
       → Still ((accepted j l o x s).state.requests i) w
   still_accepted s j l w o x free y = at o x
     where
@@ -99,12 +97,13 @@ module _ (z : Sizes) (i : ℕ) where
       new : (o : Op) → Still (put j (Asked l o 0) s.requests i) w
       new o = rw (put_other j i (Asked l o 0) s.requests ne) y
 
-      at : (o : Op) (x : Held) → Still ((accepted j l o x s).state.requests i) w
-      at Read Nothing = new Read
-      at Read (Copy k v t) = y
-      at (Write v) Nothing = new (Write v)
-      at (Write v) (Copy Reader u t) = new (Write v)
-      at (Write v) (Copy Writer u t) = y
+      at : (o : Op) (x : Option Held) → Still ((accepted j l o x s).state.requests i) w
+      at o None = new o
+      at Read (Some copy) = y
+      at (Write v) (Some copy) =
+          elim (is_writer copy.role)
+          as (λ t. Still ((cond t (write_hit j l (record copy { word = v }) s) (new_request j l (Write v) s)).state.requests i) w)
+          [ true ↦ y | false ↦ new (Write v) ]
 
   still_ask : (s : State) (j l w : ℕ) (o : Op) → Still (s.requests i) w → Still ((asking z j l o s).state.requests i) w
   unfolding asking
@@ -139,13 +138,16 @@ still_new z s i l o e = go (ask_refusal z i l s) o (s.copies l i) e
     new : (o : Op) → Still (put i (Asked l o 0) s.requests i) 0
     new o = rw (put_same i (Asked l o 0) s.requests) (record { waits = refl; count = refl })
 
-    go : (v : Option Refusal) (o : Op) (x : Held) → ToAsk Waits ≡ (unless v (accepted i l o x s) s).reply
+    go : (v : Option Refusal) (o : Op) (x : Option Held) → ToAsk Waits ≡ (unless v (accepted i l o x s) s).reply
         → Still ((unless v (accepted i l o x s) s).state.requests i) 0
-    go None Read Nothing e = new Read
-    go None Read (Copy k w t) e = absurd (never cc)
-    go None (Write v) Nothing e = new (Write v)
-    go None (Write v) (Copy Reader w t) e = new (Write v)
-    go None (Write v) (Copy Writer w t) e = absurd (never cc)
+    go None o None e = new o
+    go None Read (Some copy) e = absurd (never cc)
+    go None (Write v) (Some copy) e = written (is_writer copy.role) e
+      where
+        written : (t : Bool) → ToAsk Waits ≡ (cond t (write_hit i l (record copy { word = v }) s) (new_request i l (Write v) s)).reply
+            → Still ((cond t (write_hit i l (record copy { word = v }) s) (new_request i l (Write v) s)).state.requests i) 0
+        written true e = absurd (never cc)
+        written false e = new (Write v)
     go (Some refusal) o x e = absurd (never cc)
 
 -- since such an ask the core was served, or its request waits with the number of slots as its wait count

@@ -1,21 +1,20 @@
 -- Refusals and questions change nothing.
-use Rattle.std.proofs.Common.{◌≡◌, ℕ, Bool, true, false, Some, None, Option, refl, inl, inr}
+use Rattle.std.proofs.Common.{◌≡◌, ℕ, Bool, true, false, Some, None, Option, refl, inl, inr, cond}
 use Rattle.setup.specs.declared.refusal.Refusal.{Refusal}
 use Rattle.machine.specs.declared.call.Call.{Call}
 use Rattle.machine.specs.declared.call.Call.TheVariants.{Ask, Slot, Settle, WordOf, StateOf, BoundOf}
 use Rattle.machine.specs.declared.held.Held.{Held}
-use Rattle.machine.specs.declared.held.Held.TheVariants.{Nothing, Copy}
 use Rattle.machine.specs.declared.op.Op.{Op}
 use Rattle.machine.specs.declared.op.Op.TheVariants.{Read, Write}
-use Rattle.machine.specs.declared.op.Role.TheVariants.{Reader, Writer}
 use Rattle.machine.specs.declared.reply.Reply.TheVariants.{Refused}
 use Rattle.machine.specs.declared.sizes.Sizes.{Sizes}
 use Rattle.machine.specs.Arbitration.{user_of, move_mark}
-use Rattle.machine.specs.Asking.{unless, ask_refusal, accepted, asking}
+use Rattle.machine.specs.Asking.{unless, ask_refusal, new_request, write_hit, accepted, asking}
 use Rattle.machine.specs.Granting.{is_granted}
 use Rattle.machine.specs.History.{sizes}
 use Rattle.machine.specs.Machine.{step}
 use Rattle.machine.specs.Order.{order}
+use Rattle.machine.specs.Parts.{is_writer}
 use Rattle.machine.specs.Questions.{telling_word, telling_state}
 use Rattle.machine.specs.Settling.{settling}
 use Rattle.machine.specs.Slot.{tried, try_user, used_by, slotting}
@@ -30,13 +29,15 @@ module _ (z : Sizes) (s : State) where
   unfolding asking
   ask_unchanged i l o e r = go (ask_refusal z i l s) o (s.copies l i) r
     where
-      go : (v : Option Refusal) (o : Op) (x : Held) → (unless v (accepted i l o x s) s).reply ≡ Refused e
+      go : (v : Option Refusal) (o : Op) (x : Option Held) → (unless v (accepted i l o x s) s).reply ≡ Refused e
           → (unless v (accepted i l o x s) s).state ≡ s
-      go None Read Nothing r = absurd (never cc)
-      go None Read (Copy k w t) r = refl
-      go None (Write v) Nothing r = absurd (never cc)
-      go None (Write v) (Copy Reader w t) r = absurd (never cc)
-      go None (Write v) (Copy Writer w t) r = absurd (never cc)
+      go None o None r = absurd (never cc)
+      go None Read (Some copy) r = refl
+      go None (Write v) (Some copy) r = absurd (written (is_writer copy.role) r)
+        where
+          written : (t : Bool) → (cond t (write_hit i l (record copy { word = v }) s) (new_request i l (Write v) s)).reply ≡ Refused e → ⊥
+          written true r = never cc
+          written false r = never cc
       go (Some refusal) o x r = refl
 
   -- a slot is never refused

@@ -1,12 +1,12 @@
 -- What storing the writers of a line does to the words.
-use Rattle.std.proofs.Common.{◌≡◌, ℕ, zero, suc, ◌<◌, Bool, true, false, cond, ◌&&◌, ◌≢◌, ◌⊎◌, List, length, get_or, set, refl, ◌∙◌, inl, inr, arith, length-set, get_or-set_other, get_or-set_same}
+use Rattle.std.proofs.Common.{◌≡◌, ℕ, zero, suc, ◌<◌, Bool, true, false, cond, ◌&&◌, ◌≢◌, ◌⊎◌, List, length, get_or, set, refl, ◌∙◌, inl, inr, arith, length-set, get_or-set_other, get_or-set_same, Option}
 use Rattle.std.proofs.lemmas.Bool.{cases_eq, and_parts, and_from}
 use Rattle.machine.specs.declared.held.Held.{Held}
 use Rattle.machine.specs.Grant.{write_back}
 use Rattle.machine.specs.Parts.{is_writers, word_in}
 use Rattle.machine.proofs.Counting.{never}
 
-module _ (way : ℕ → Held → Bool) (cs : ℕ → Held) (l : ℕ) where
+module _ (way : ℕ → Option Held → Bool) (cs : ℕ → Option Held) (l : ℕ) where
   takes : ℕ → Bool
   takes k = way k (cs k) && is_writers (cs k)
 

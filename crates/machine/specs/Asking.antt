@@ -3,15 +3,13 @@ use Rattle.std.specs.Prelude.{ℕ, Bool, cond, not, Some, None, Option, nat_lt}
 use Rattle.setup.specs.declared.refusal.Refusal.{Refusal}
 use Rattle.setup.specs.declared.refusal.Refusal.TheVariants.{NoSuchCore, NoSuchLine, RequestPending}
 use Rattle.machine.specs.declared.held.Held.{Held}
-use Rattle.machine.specs.declared.held.Held.TheVariants.{Nothing, Copy}
 use Rattle.machine.specs.declared.op.Op.{Op}
 use Rattle.machine.specs.declared.op.Op.TheVariants.{Read, Write}
-use Rattle.machine.specs.declared.op.Role.TheVariants.{Reader, Writer}
 use Rattle.machine.specs.declared.reply.AskAnswer.TheVariants.{Hit, Waits}
 use Rattle.machine.specs.declared.reply.Reply.TheVariants.{Refused, ToAsk}
 use Rattle.machine.specs.declared.request.Request.TheVariants.{Asked}
 use Rattle.machine.specs.declared.sizes.Sizes.{Sizes}
-use Rattle.machine.specs.Parts.{is_waiting}
+use Rattle.machine.specs.Parts.{is_writer, is_waiting}
 use Rattle.machine.specs.Places.{put}
 use Rattle.machine.specs.State.{State, Outcome, unchanged, with_request}
 
@@ -45,12 +43,12 @@ abbrev pub new_request : ℕ → ℕ → Op → State → Outcome
 new_request core line op s = record { reply = ToAsk Waits; state = with_request core (Asked line op 0) s }
 
 -- a hit touches no timer
-abbrev pub write_hit : ℕ → ℕ → Held → ℕ → State → Outcome
-write_hit core line new word s =
+abbrev pub write_hit : ℕ → ℕ → Held → State → Outcome
+write_hit core line new s =
     record {
-      reply = ToAsk (Hit word);
+      reply = ToAsk (Hit new.word);
       state = record {
-        copies = put line (put core new (s.copies line)) s.copies;
+        copies = put line (put core (Some new) (s.copies line)) s.copies;
         requests = s.requests;
         owner = s.owner;
         mark = s.mark;
@@ -60,12 +58,11 @@ write_hit core line new word s =
     }
 
 -- a copy serves reads, and a writer's copy serves writes; all else waits
-abbrev pub accepted : ℕ → ℕ → Op → Held → State → Outcome
-accepted core line Read Nothing s = new_request core line Read s
-accepted core line Read (Copy role word timers) s = unchanged (ToAsk (Hit word)) s
-accepted core line (Write w) Nothing s = new_request core line (Write w) s
-accepted core line (Write w) (Copy Reader word timers) s = new_request core line (Write w) s
-accepted core line (Write w) (Copy Writer word timers) s = write_hit core line (Copy Writer w timers) w s
+abbrev pub accepted : ℕ → ℕ → Op → Option Held → State → Outcome
+accepted core line op None s = new_request core line op s
+accepted core line Read (Some copy) s = unchanged (ToAsk (Hit copy.word)) s
+accepted core line (Write w) (Some copy) s =
+    cond (is_writer copy.role) (write_hit core line (record copy { word = w }) s) (new_request core line (Write w) s)
 
 unfoldable pub asking : Sizes → ℕ → ℕ → Op → State → Outcome
 asking z core line op s = unless (ask_refusal z core line s) (accepted core line op (s.copies line core) s) s

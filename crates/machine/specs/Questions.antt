@@ -1,9 +1,9 @@
 -- Three questions: which word a line has, which state a core is in on a line, and what the bound is. They change nothing.
-use Rattle.std.specs.Prelude.{ℕ, zero, suc, Bool, false, cond, not, ◌&&◌, None, ◌==◌, slice_index}
+use Rattle.std.specs.Prelude.{ℕ, zero, suc, Bool, false, cond, not, ◌&&◌, Some, None, Option, ◌==◌, slice_index}
 use Rattle.setup.specs.Bound.{bound, cycles}
 use Rattle.machine.specs.declared.held.Held.{Held}
-use Rattle.machine.specs.declared.held.Held.TheVariants.{Nothing, Copy}
 use Rattle.machine.specs.declared.op.Op.TheVariants.{Read, Write}
+use Rattle.machine.specs.declared.op.Role.{Role}
 use Rattle.machine.specs.declared.op.Role.TheVariants.{Reader, Writer}
 use Rattle.machine.specs.declared.reply.Reply.TheVariants.{Word, Code, Bound}
 use Rattle.machine.specs.declared.request.Request.{Request}
@@ -18,7 +18,7 @@ use Rattle.machine.specs.State.{State, Outcome, unchanged}
 -- The word of a line ------------------------------------------------------------------------------
 
 -- the writer's among the first n cores, else the memory's
-abbrev pub writers_word : (ℕ → Held) → ℕ → ℕ → ℕ
+abbrev pub writers_word : (ℕ → Option Held) → ℕ → ℕ → ℕ
 writers_word held zero word = word
 writers_word held (suc n) word = cond (is_writers (held n)) (word_in (held n)) (writers_word held n word)
 
@@ -29,7 +29,7 @@ telling_word z line s =
 -- The state of a core on a line -------------------------------------------------------------------
 
 -- whether core i's copy of line l is in the way of core j's request, an ordered one
-abbrev pub blocks : ℕ → ℕ → Held → ℕ → Request → Bool
+abbrev pub blocks : ℕ → ℕ → Option Held → ℕ → Request → Bool
 blocks i l held j Free = false
 blocks i l held j (Asked line op wait) = false
 blocks i l held j (Ordered line op ahead wait) = line == l && in_way j op i held
@@ -42,16 +42,19 @@ request_code l (Ordered line Read ahead wait) = cond (line == l) 6 0
 request_code l (Asked line (Write w) wait) = cond (line == l) 7 0
 request_code l (Ordered line (Write w) ahead wait) = cond (line == l) 8 0
 
+-- S or STI for a reader's copy, M or MTI for a writer's: the second if it is called for
+abbrev pub copy_code : Role → Bool → ℕ
+copy_code Reader called_for = cond called_for 3 1
+copy_code Writer called_for = cond called_for 4 2
+
 module _ (z : Sizes) where
   -- whether the copy blocks any request
-  abbrev pub is_called_for : State → ℕ → ℕ → Held → Bool
+  abbrev pub is_called_for : State → ℕ → ℕ → Option Held → Bool
   is_called_for s core line held = not (count_below (λ j. blocks core line held j (s.requests j)) z.cores == 0)
 
-  -- S or STI for a reader's copy, M or MTI for a writer's
-  abbrev pub code_of : State → ℕ → ℕ → Held → ℕ
-  code_of s core line Nothing = request_code line (s.requests core)
-  code_of s core line (Copy Reader word timers) = cond (is_called_for s core line (Copy Reader word timers)) 3 1
-  code_of s core line (Copy Writer word timers) = cond (is_called_for s core line (Copy Writer word timers)) 4 2
+  abbrev pub code_of : State → ℕ → ℕ → Option Held → ℕ
+  code_of s core line None = request_code line (s.requests core)
+  code_of s core line (Some copy) = copy_code copy.role (is_called_for s core line (Some copy))
 
   unfoldable pub telling_state : ℕ → ℕ → State → Outcome
   telling_state core line s =

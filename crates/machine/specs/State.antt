@@ -1,5 +1,5 @@
 -- The state of a hub between two calls, and the class of a core. The sizes of the hub stand beside the state, as z.
-use Rattle.std.specs.Prelude.{ℕ, Bool, cond, not, List, nat_lt}
+use Rattle.std.specs.Prelude.{ℕ, Bool, cond, not, List, Option, nat_lt}
 use Rattle.policy.specs.Timing.{Timing}
 use Rattle.policy.specs.declared.class.Class.{Class}
 use Rattle.policy.specs.declared.class.Class.TheVariants.{Critical, NonCritical}
@@ -11,7 +11,7 @@ use Rattle.machine.specs.Places.{put}
 
 pub record State : Type 0 where
   -- what each core holds of each line: the line first, then the core
-  pub copies : ℕ → ℕ → Held
+  pub copies : ℕ → ℕ → Option Held
   pub requests : ℕ → Request
   -- the critical core to which the next slot belongs
   pub owner : ℕ
