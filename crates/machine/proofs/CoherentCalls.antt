@@ -19,14 +19,14 @@ use Rattle.machine.specs.Granting.{is_granted}
 use Rattle.machine.specs.History.{Start, sizes, fresh, History, From, begun, called}
 use Rattle.machine.specs.Machine.{step}
 use Rattle.machine.specs.Order.{ordered_behind, queue_length, order}
-use Rattle.machine.specs.Parts.{is_writer, word_in, is_waiting, line_of, op_of}
+use Rattle.machine.specs.Parts.{word_in, is_waiting, line_of, op_of}
 use Rattle.machine.specs.Places.{put}
 use Rattle.machine.specs.Questions.{telling_word, telling_state}
 use Rattle.machine.specs.Settling.{all_copies, settle_below, settling}
 use Rattle.machine.specs.Slot.{end_slot, tried, try_user, used_by, slotting}
 use Rattle.machine.specs.State.{State, Outcome, class_of}
 use Rattle.machine.specs.Time.{tick}
-use Rattle.machine.proofs.Asks.{ask_accepted, unless_same}
+use Rattle.machine.proofs.Asks.{ask_accepted, accepted_all, unless_same}
 use Rattle.machine.proofs.Coherence.{nothing, writes, Line, line_stored, line_writer}
 use Rattle.machine.proofs.CoherentGrant.{granted_last, words_last, grant_wish, grant_wish_user, good_grant}
 use Rattle.machine.proofs.Counting.{never, put_same, put_other, put_all}
@@ -192,19 +192,17 @@ module _ (z : Sizes) (ws : ℕ → Wish) (last : ℕ → ℕ) where
   kept_accepted : (s : State) (j l : ℕ) (o : Op) (x : Option Held) → j < z.cores → l < z.lines → s.copies l j ≡ x → Good z s last
       → ((i : ℕ) → ws i ≡ wishes s i)
       → Kept z (Ask j l o) (accepted j l o x s) ws last
-  kept_accepted s j l o None hj hl was g e = kept_new s j l o hj hl (λ _. ap shape was) g e
-  kept_accepted s j l Read (Some copy) hj hl was g e =
-      record {
+  kept_accepted s j l o x hj hl was g e =
+      accepted_all j l s (λ o x out. s.copies l j ≡ x → Kept z (Ask j l o) out ws last)
+      (λ o was. kept_new s j l o hj hl (λ _. ap shape was) g e)
+      (λ copy was. record {
         good = g;
         asks = e;
         right = λ i k w a. let l_is : l ≡ k = cc in let w_is : copy.word ≡ w = cc in sym w_is ∙ (copy_last s j l copy was g ∙ ap last l_is);
-      }
-  kept_accepted s j l (Write w) (Some copy) hj hl was g e = go copy.role refl
-    where
-      go : (r : Role) → copy.role ≡ r
-          → Kept z (Ask j l (Write w)) (cond (is_writer r) (write_hit j l (record copy { word = w }) s) (new_request j l (Write w) s)) ws last
-      go Reader readers = kept_new s j l (Write w) hj hl (λ a. absurd (never cc)) g e
-      go Writer writers = kept_hit s j l w copy hj was writers g e
+      })
+      (λ w copy was. kept_new s j l (Write w) hj hl (λ a. absurd (never cc)) g e)
+      (λ w copy writers was. kept_hit s j l w copy hj was writers g e)
+      o x was
 
   kept_ask : (s : State) (j l : ℕ) (o : Op) → Good z s last → ((i : ℕ) → ws i ≡ wishes s i) → Kept z (Ask j l o) (asking z j l o s) ws last
   unfolding asking

@@ -6,8 +6,6 @@ use Rattle.machine.specs.declared.held.Held.{Held}
 use Rattle.machine.specs.declared.op.Op.TheVariants.{Read, Write}
 use Rattle.machine.specs.declared.op.Role.{Role}
 use Rattle.machine.specs.declared.op.Role.TheVariants.{Reader, Writer}
-use Rattle.machine.specs.declared.reply.Reply.{Reply}
-use Rattle.machine.specs.declared.reply.Reply.TheVariants.{Code}
 use Rattle.machine.specs.declared.request.Request.{Request}
 use Rattle.machine.specs.declared.request.Request.TheVariants.{Free, Asked, Ordered}
 use Rattle.machine.specs.declared.sizes.Sizes.{Sizes}
@@ -17,6 +15,7 @@ use Rattle.machine.specs.LoneWriters.{Writers, in_m, in_mti, Copied, writers, in
 use Rattle.machine.specs.Machine.{step}
 use Rattle.machine.specs.Parts.{word_in}
 use Rattle.machine.specs.Questions.{request_code, copy_code, is_called_for, code_of, telling_state}
+use Rattle.machine.specs.Replies.{Reply, has_code}
 use Rattle.machine.specs.State.{State, unchanged}
 use Rattle.machine.proofs.Coherence.{nothing, writes}
 use Rattle.machine.proofs.CoherentCalls.{story}
@@ -60,20 +59,20 @@ module _ (z : Sizes) (s : State) (i l : ℕ) where
       go Reader false e = absurd (elim d [ inl a ↦ omega arith | inr a ↦ omega arith ])
 
   -- the question for the state tells the code
-  told_code : (k : ℕ) → (step z (StateOf i l) s).reply ≡ Code k → code_of z s i l (s.copies l i) ≡ k
+  told_code : (k : ℕ) → (step z (StateOf i l) s).reply ≡ has_code k → code_of z s i l (s.copies l i) ≡ k
   unfolding telling_state
   told_code k e = go (test_core z i (test_line z l None)) e
     where
-      go : (v : Option Refusal) → (unless v (unchanged (Code (code_of z s i l (s.copies l i))) s) s).reply ≡ Code k
+      go : (v : Option Refusal) → (unless v (unchanged (has_code (code_of z s i l (s.copies l i))) s) s).reply ≡ has_code k
           → code_of z s i l (s.copies l i) ≡ k
       go None e = cc
       go (Some refusal) e = absurd (never cc)
 
-writers_code : (r : Reply) → Writers r → (k : ℕ) × (r ≡ Code k) × ((k ≡ 2) ⊎ (k ≡ 4))
+writers_code : (r : Reply) → Writers r → (k : ℕ) × (r ≡ has_code k) × ((k ≡ 2) ⊎ (k ≡ 4))
 writers_code r in_m = (2, refl, inl refl)
 writers_code r in_mti = (4, refl, inr refl)
 
-copied_code : (r : Reply) → Copied r → (k : ℕ) × (r ≡ Code k) × (1 ≤ k) × (k ≤ 4)
+copied_code : (r : Reply) → Copied r → (k : ℕ) × (r ≡ has_code k) × (1 ≤ k) × (k ≤ 4)
 copied_code r (writers in_m) = (2, refl, omega arith, omega arith)
 copied_code r (writers in_mti) = (4, refl, omega arith, omega arith)
 copied_code r in_s = (1, refl, omega arith, omega arith)

@@ -1,5 +1,5 @@
 -- Every call keeps a hub ready, and so it is in every state reached.
-use Rattle.std.proofs.Common.{◌≡◌, ℕ, ◌+◌, ◌-◌, ◌*◌, ◌<◌, ◌≤◌, true, false, Some, None, Option, sym, refl, ap, ◌∙◌, subst, mul-le-mul, arith, cond}
+use Rattle.std.proofs.Common.{◌≡◌, ℕ, ◌+◌, ◌-◌, ◌*◌, ◌<◌, ◌≤◌, true, false, Some, None, Option, sym, refl, ap, ◌∙◌, subst, mul-le-mul, arith}
 use Rattle.setup.specs.Bound.{bound}
 use Rattle.setup.specs.declared.bound.Caps.{Caps}
 use Rattle.setup.specs.declared.refusal.Refusal.{Refusal}
@@ -14,16 +14,16 @@ use Rattle.machine.specs.declared.op.Op.TheVariants.{Read, Write}
 use Rattle.machine.specs.declared.request.Request.{Request}
 use Rattle.machine.specs.declared.request.Request.TheVariants.{Free, Asked, Ordered}
 use Rattle.machine.specs.declared.sizes.Sizes.{Sizes}
-use Rattle.machine.specs.Asking.{unless, ask_refusal, new_request, write_hit, accepted, asking}
+use Rattle.machine.specs.Asking.{unless, ask_refusal, write_hit, accepted, asking}
 use Rattle.machine.specs.Granting.{in_way}
 use Rattle.machine.specs.History.{Start, sizes, longest_wait, History, From, begun, called}
 use Rattle.machine.specs.Machine.{step}
-use Rattle.machine.specs.Parts.{is_writer, timer, is_waiting, op_of, wait_of}
+use Rattle.machine.specs.Parts.{timer, is_waiting, op_of, wait_of}
 use Rattle.machine.specs.Places.{put}
 use Rattle.machine.specs.Questions.{telling_word, telling_state}
 use Rattle.machine.specs.Settling.{settling}
 use Rattle.machine.specs.State.{State}
-use Rattle.machine.proofs.Asks.{ask_accepted, unless_same}
+use Rattle.machine.proofs.Asks.{ask_accepted, accepted_all, unless_same}
 use Rattle.machine.proofs.Counting.{never, put_all}
 use Rattle.machine.proofs.Due.{Due, due_map}
 use Rattle.machine.proofs.Histories.{limits_from, lawful_from}
@@ -89,12 +89,11 @@ module _ (z : Sizes) (caps : Caps) (fit : Fit z caps) where
 
   ready_accepted : (s : State) (i l : ℕ) (o : Op) (x : Option Held) → s.copies l i ≡ x → is_waiting (s.requests i) ≡ false → Ready z caps 1 s
       → Ready z caps 1 (accepted i l o x s).state
-  ready_accepted s i l o None was free r = ready_asked z caps fit s i l o free r
-  ready_accepted s i l Read (Some copy) was free r = r
-  ready_accepted s i l (Write w) (Some copy) was free r =
-      elim (is_writer copy.role)
-      as (λ t. Ready z caps 1 (cond t (write_hit i l (record copy { word = w }) s) (new_request i l (Write w) s)).state)
-      [ true ↦ ready_hit s i l w copy was r | false ↦ ready_asked z caps fit s i l (Write w) free r ]
+  ready_accepted s i l o x was free r =
+      accepted_all i l s (λ o x out. s.copies l i ≡ x → Ready z caps 1 out.state)
+      (λ o _. ready_asked z caps fit s i l o free r) (λ copy _. r)
+      (λ w copy _. ready_asked z caps fit s i l (Write w) free r) (λ w copy writers was. ready_hit s i l w copy was r)
+      o x was
 
   ready_ask : (s : State) (i l : ℕ) (o : Op) → Ready z caps 1 s → Ready z caps 1 (asking z i l o s).state
   unfolding asking

@@ -5,12 +5,11 @@ use Rattle.setup.specs.declared.refusal.Refusal.TheVariants.{NoSuchCore, NoSuchL
 use Rattle.machine.specs.declared.held.Held.{Held}
 use Rattle.machine.specs.declared.op.Op.{Op}
 use Rattle.machine.specs.declared.op.Op.TheVariants.{Read, Write}
-use Rattle.machine.specs.declared.reply.AskAnswer.TheVariants.{Hit, Waits}
-use Rattle.machine.specs.declared.reply.Reply.TheVariants.{Refused, ToAsk}
 use Rattle.machine.specs.declared.request.Request.TheVariants.{Asked}
 use Rattle.machine.specs.declared.sizes.Sizes.{Sizes}
 use Rattle.machine.specs.Parts.{is_writer, is_waiting}
 use Rattle.machine.specs.Places.{put}
+use Rattle.machine.specs.Replies.{refused, hit, waits}
 use Rattle.machine.specs.State.{State, Outcome, unchanged, with_request}
 
 -- Refusals ----------------------------------------------------------------------------------------
@@ -22,7 +21,7 @@ tested ok e next = cond ok next (Some e)
 -- a refused call answers its refusal and changes nothing
 abbrev pub unless : Option Refusal → Outcome → State → Outcome
 unless None out s = out
-unless (Some e) out s = unchanged (Refused e) s
+unless (Some e) out s = unchanged (refused e) s
 
 module _ (z : Sizes) where
   -- refusal 5: the hub has no such core
@@ -40,13 +39,13 @@ module _ (z : Sizes) where
 -- Accepted asks -----------------------------------------------------------------------------------
 
 abbrev pub new_request : ℕ → ℕ → Op → State → Outcome
-new_request core line op s = record { reply = ToAsk Waits; state = with_request core (Asked line op 0) s }
+new_request core line op s = record { reply = waits; state = with_request core (Asked line op 0) s }
 
 -- a hit touches no timer
 abbrev pub write_hit : ℕ → ℕ → Held → State → Outcome
 write_hit core line new s =
     record {
-      reply = ToAsk (Hit new.word);
+      reply = hit new.word;
       state = record {
         copies = put line (put core (Some new) (s.copies line)) s.copies;
         requests = s.requests;
@@ -60,7 +59,7 @@ write_hit core line new s =
 -- a copy serves reads, and a writer's copy serves writes; all else waits
 abbrev pub accepted : ℕ → ℕ → Op → Option Held → State → Outcome
 accepted core line op None s = new_request core line op s
-accepted core line Read (Some copy) s = unchanged (ToAsk (Hit copy.word)) s
+accepted core line Read (Some copy) s = unchanged (hit copy.word) s
 accepted core line (Write w) (Some copy) s =
     cond (is_writer copy.role) (write_hit core line (record copy { word = w }) s) (new_request core line (Write w) s)
 

@@ -6,10 +6,10 @@ use Rattle.setup.specs.declared.draft.Draft.{Draft}
 use Rattle.policy.specs.Timing.{Timing, Lawful}
 use Rattle.machine.specs.declared.call.Call.{Call}
 use Rattle.machine.specs.declared.call.Call.TheVariants.{Ask, Slot, Settle, WordOf, StateOf, BoundOf}
-use Rattle.machine.specs.declared.reply.Reply.{Reply}
 use Rattle.machine.specs.declared.request.Request.TheVariants.{Free}
 use Rattle.machine.specs.declared.sizes.Sizes.{Sizes}
 use Rattle.machine.specs.Machine.{step}
+use Rattle.machine.specs.Replies.{Reply}
 use Rattle.machine.specs.State.{State}
 
 -- What a hub is started on ------------------------------------------------------------------------

@@ -5,7 +5,6 @@ use Rattle.machine.specs.declared.held.Held.{Held}
 use Rattle.machine.specs.declared.op.Op.TheVariants.{Read, Write}
 use Rattle.machine.specs.declared.op.Role.{Role}
 use Rattle.machine.specs.declared.op.Role.TheVariants.{Reader, Writer}
-use Rattle.machine.specs.declared.reply.Reply.TheVariants.{Word, Code, Bound}
 use Rattle.machine.specs.declared.request.Request.{Request}
 use Rattle.machine.specs.declared.request.Request.TheVariants.{Free, Asked, Ordered}
 use Rattle.machine.specs.declared.sizes.Sizes.{Sizes}
@@ -13,6 +12,7 @@ use Rattle.machine.specs.Asking.{unless, test_core, test_line}
 use Rattle.machine.specs.Granting.{in_way}
 use Rattle.machine.specs.Parts.{is_writers, word_in}
 use Rattle.machine.specs.Places.{count_below}
+use Rattle.machine.specs.Replies.{has_word, has_code, bounded}
 use Rattle.machine.specs.State.{State, Outcome, unchanged}
 
 -- The word of a line ------------------------------------------------------------------------------
@@ -24,7 +24,7 @@ writers_word held (suc n) word = cond (is_writers (held n)) (word_in (held n)) (
 
 unfoldable pub telling_word : Sizes → ℕ → State → Outcome
 telling_word z line s =
-    unless (test_line z line None) (unchanged (Word (writers_word (s.copies line) z.cores (slice_index s.words line))) s) s
+    unless (test_line z line None) (unchanged (has_word (writers_word (s.copies line) z.cores (slice_index s.words line))) s) s
 
 -- The state of a core on a line -------------------------------------------------------------------
 
@@ -58,11 +58,11 @@ module _ (z : Sizes) where
 
   unfoldable pub telling_state : ℕ → ℕ → State → Outcome
   telling_state core line s =
-      unless (test_core z core (test_line z line None)) (unchanged (Code (code_of s core line (s.copies line core))) s) s
+      unless (test_core z core (test_line z line None)) (unchanged (has_code (code_of s core line (s.copies line core))) s) s
 
   -- The bound of a critical wait ------------------------------------------------------------------
 
   abbrev pub telling_bound : State → Outcome
   telling_bound s =
       let slots : ℕ = bound z.critical s.timing.caps in
-      unchanged (Bound (record { count = slots }) (record { count = cycles z.width slots })) s
+      unchanged (bounded slots (cycles z.width slots)) s

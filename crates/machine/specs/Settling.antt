@@ -1,11 +1,11 @@
 -- A settle: every writer's word goes to the memory, and the copies stay.
 use Rattle.std.specs.Prelude.{ℕ, zero, suc, ◌+◌, Bool, true, List, Option}
 use Rattle.machine.specs.declared.held.Held.{Held}
-use Rattle.machine.specs.declared.reply.Reply.TheVariants.{Settled}
 use Rattle.machine.specs.declared.sizes.Sizes.{Sizes}
 use Rattle.machine.specs.Grant.{write_back}
 use Rattle.machine.specs.Parts.{is_writers}
 use Rattle.machine.specs.Places.{count_below}
+use Rattle.machine.specs.Replies.{settled}
 use Rattle.machine.specs.State.{State, Outcome}
 
 abbrev pub all_copies : ℕ → Option Held → Bool
@@ -25,7 +25,7 @@ module _ (z : Sizes) where
   unfoldable pub settling : State → Outcome
   settling s =
       record {
-        reply = Settled (writers_below s.copies z.lines);
+        reply = settled (writers_below s.copies z.lines);
         state = record {
           copies = s.copies;
           requests = s.requests;

@@ -4,10 +4,10 @@ use Rattle.policy.specs.Timing.{Timing}
 use Rattle.policy.specs.declared.class.Class.{Class}
 use Rattle.policy.specs.declared.class.Class.TheVariants.{Critical, NonCritical}
 use Rattle.machine.specs.declared.held.Held.{Held}
-use Rattle.machine.specs.declared.reply.Reply.{Reply}
 use Rattle.machine.specs.declared.request.Request.{Request}
 use Rattle.machine.specs.declared.sizes.Sizes.{Sizes}
 use Rattle.machine.specs.Places.{put}
+use Rattle.machine.specs.Replies.{Reply}
 
 pub record State : Type 0 where
   -- what each core holds of each line: the line first, then the core

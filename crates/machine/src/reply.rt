@@ -37,10 +37,9 @@ pub enum SlotAnswer {
     },
 }
 
-// What a call answers, whichever call it was.
+// What a call that is not refused answers, whichever call it was.
 #[derive(Clone, Copy)]
-pub enum Reply {
-    Refused(Refusal),
+pub enum Answer {
     ToAsk(AskAnswer),
     ToSlot(SlotAnswer),
     // How many words a settle stored.
@@ -51,3 +50,6 @@ pub enum Reply {
     // The bound of a critical wait.
     Bound { slots: Slots, cycles: Cycles },
 }
+
+// What a call is answered: an answer, or a refusal.
+pub type Reply = Result<Answer, Refusal>;
