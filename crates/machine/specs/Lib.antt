@@ -1,3 +1,4 @@
+pub mod CoreState
 pub mod Replies
 pub mod Places
 pub mod Parts

@@ -1,6 +1,8 @@
 -- Three questions: which word a line has, which state a core is in on a line, and what the bound is. They change nothing.
 use Rattle.std.specs.Prelude.{ℕ, zero, suc, Bool, false, cond, not, ◌&&◌, Some, None, Option, ◌==◌, slice_index}
 use Rattle.setup.specs.Bound.{bound, cycles}
+use Rattle.machine.specs.declared.core_state.CoreState.{CoreState}
+use Rattle.machine.specs.declared.core_state.CoreState.TheVariants.{I, S, M, Sti, Mti, Isad, Isd, Imad, Imd}
 use Rattle.machine.specs.declared.held.Held.{Held}
 use Rattle.machine.specs.declared.op.Op.TheVariants.{Read, Write}
 use Rattle.machine.specs.declared.op.Role.{Role}
@@ -12,7 +14,7 @@ use Rattle.machine.specs.Asking.{unless, test_core, test_line}
 use Rattle.machine.specs.Granting.{in_way}
 use Rattle.machine.specs.Parts.{is_writers, word_in}
 use Rattle.machine.specs.Places.{count_below}
-use Rattle.machine.specs.Replies.{has_word, has_code, bounded}
+use Rattle.machine.specs.Replies.{has_word, in_state, bounded}
 use Rattle.machine.specs.State.{State, Outcome, unchanged}
 
 -- The word of a line ------------------------------------------------------------------------------
@@ -35,30 +37,30 @@ blocks i l held j (Asked line op wait) = false
 blocks i l held j (Ordered line op ahead wait) = line == l && in_way j op i held
 
 -- where the core has no copy: I, or by its request on that line ISAD, ISD, IMAD or IMD
-abbrev pub request_code : ℕ → Request → ℕ
-request_code l Free = 0
-request_code l (Asked line Read wait) = cond (line == l) 5 0
-request_code l (Ordered line Read ahead wait) = cond (line == l) 6 0
-request_code l (Asked line (Write w) wait) = cond (line == l) 7 0
-request_code l (Ordered line (Write w) ahead wait) = cond (line == l) 8 0
+abbrev pub request_state : ℕ → Request → CoreState
+request_state l Free = I
+request_state l (Asked line Read wait) = cond (line == l) Isad I
+request_state l (Ordered line Read ahead wait) = cond (line == l) Isd I
+request_state l (Asked line (Write w) wait) = cond (line == l) Imad I
+request_state l (Ordered line (Write w) ahead wait) = cond (line == l) Imd I
 
 -- S or STI for a reader's copy, M or MTI for a writer's: the second if it is called for
-abbrev pub copy_code : Role → Bool → ℕ
-copy_code Reader called_for = cond called_for 3 1
-copy_code Writer called_for = cond called_for 4 2
+abbrev pub copy_state : Role → Bool → CoreState
+copy_state Reader called_for = cond called_for Sti S
+copy_state Writer called_for = cond called_for Mti M
 
 module _ (z : Sizes) where
   -- whether the copy blocks any request
   abbrev pub is_called_for : State → ℕ → ℕ → Option Held → Bool
   is_called_for s core line held = not (count_below (λ j. blocks core line held j (s.requests j)) z.cores == 0)
 
-  abbrev pub code_of : State → ℕ → ℕ → Option Held → ℕ
-  code_of s core line None = request_code line (s.requests core)
-  code_of s core line (Some copy) = copy_code copy.role (is_called_for s core line (Some copy))
+  abbrev pub core_state : State → ℕ → ℕ → Option Held → CoreState
+  core_state s core line None = request_state line (s.requests core)
+  core_state s core line (Some copy) = copy_state copy.role (is_called_for s core line (Some copy))
 
   unfoldable pub telling_state : ℕ → ℕ → State → Outcome
   telling_state core line s =
-      unless (test_core z core (test_line z line None)) (unchanged (has_code (code_of s core line (s.copies line core))) s) s
+      unless (test_core z core (test_line z line None)) (unchanged (in_state (core_state s core line (s.copies line core))) s) s
 
   -- The bound of a critical wait ------------------------------------------------------------------
 

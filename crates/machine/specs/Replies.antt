@@ -1,9 +1,10 @@
 -- What a call is answered, and the words for it in which the rules, histories and laws speak.
 use Rattle.std.specs.Prelude.{ℕ, Ok, Err, Result}
 use Rattle.setup.specs.declared.refusal.Refusal.{Refusal}
+use Rattle.machine.specs.declared.core_state.CoreState.{CoreState}
 use Rattle.machine.specs.declared.op.Role.{Role}
 use Rattle.machine.specs.declared.reply.Answer.{Answer}
-use Rattle.machine.specs.declared.reply.Answer.TheVariants.{ToAsk, ToSlot, Settled, Word, Code, Bound}
+use Rattle.machine.specs.declared.reply.Answer.TheVariants.{ToAsk, ToSlot, Settled, Word, State, Bound}
 use Rattle.machine.specs.declared.reply.AskAnswer.TheVariants.{Hit, Waits}
 use Rattle.machine.specs.declared.reply.SlotAnswer.TheVariants.{Idle, Waiting, Done}
 
@@ -42,8 +43,8 @@ settled stored = Ok (Settled stored)
 abbrev pub has_word : ℕ → Reply
 has_word word = Ok (Word word)
 
-abbrev pub has_code : ℕ → Reply
-has_code code = Ok (Code code)
+abbrev pub in_state : CoreState → Reply
+in_state state = Ok (State state)
 
 -- the bound in slots and in cycles
 abbrev pub bounded : ℕ → ℕ → Reply

@@ -1,4 +1,5 @@
 // What the calls of a hub answer.
+use crate::core_state::CoreState;
 use crate::op::Role;
 use setup::bound::{Cycles, Slots};
 use setup::refusal::Refusal;
@@ -45,8 +46,8 @@ pub enum Answer {
     // How many words a settle stored.
     Settled { stored: usize },
     Word(u64),
-    // A core's state on a line, by its code.
-    Code(u8),
+    // A core's state on a line.
+    State(CoreState),
     // The bound of a critical wait.
     Bound { slots: Slots, cycles: Cycles },
 }

@@ -8,10 +8,11 @@ use Rattle.policy.specs.declared.class.Class.{Class}
 use Rattle.policy.specs.declared.class.Class.TheVariants.{Critical, NonCritical}
 use Rattle.policy.specs.declared.holds.FourHolds.{FourHolds}
 use Rattle.machine.specs.declared.call.Call.TheVariants.{Ask, Slot, Settle, WordOf, StateOf, BoundOf}
+use Rattle.machine.specs.declared.core_state.CoreState.TheVariants.{I, S, M, Sti, Mti, Isad, Isd, Imad, Imd}
 use Rattle.machine.specs.declared.op.Op.TheVariants.{Read, Write}
 use Rattle.machine.specs.declared.op.Role.TheVariants.{Reader, Writer}
 use Rattle.machine.specs.History.{Start, Event, event}
-use Rattle.machine.specs.Replies.{refused, hit, waits, idle, waiting, done, settled, has_word, has_code, bounded}
+use Rattle.machine.specs.Replies.{refused, hit, waits, idle, waiting, done, settled, has_word, in_state, bounded}
 
 -- what the hub is started on, the events, the earliest first, and the words that the memory has at the end
 pub record Run : Type 0 where
@@ -58,7 +59,7 @@ hand_over =
     ∷ event (Ask 0 0 (Write 9)) waits
     ∷ event Slot (done 1 1 0 Reader 5 1)
     ∷ event Slot (waiting 0 0 0 Writer)
-    ∷ event (StateOf 2 0) (has_code 3)
+    ∷ event (StateOf 2 0) (in_state Sti)
     ∷ event Slot (idle 1)
     ∷ event (Ask 2 0 (Write 8)) waits
     ∷ event Slot (done 0 0 0 Writer 9 4)
@@ -78,13 +79,13 @@ upgrade =
     (event (Ask 0 0 Read) waits
     ∷ event Slot (done 0 0 0 Reader 0 1)
     ∷ event (Ask 0 0 (Write 4)) waits
-    ∷ event (StateOf 0 0) (has_code 1)
+    ∷ event (StateOf 0 0) (in_state S)
     ∷ event Slot (idle 1)
     ∷ event Slot (waiting 0 0 0 Writer)
-    ∷ event (StateOf 0 0) (has_code 3)
+    ∷ event (StateOf 0 0) (in_state Sti)
     ∷ event Slot (idle 1)
     ∷ event Slot (done 0 0 0 Writer 4 4)
-    ∷ event (StateOf 0 0) (has_code 2)
+    ∷ event (StateOf 0 0) (in_state M)
     ∷ event (Ask 0 0 Read) (hit 4)
     ∷ event (Ask 0 0 (Write 5)) (hit 5)
     ∷ event (WordOf 0) (has_word 5)
@@ -191,33 +192,33 @@ round =
     ∷ [])
     (1 ∷ 2 ∷ 3 ∷ 4 ∷ [])
 
--- All nine codes, also on a line that is not asked for.
-abbrev pub all_codes : Run
-all_codes =
+-- All nine states, also on a line that is not asked for.
+abbrev pub all_states : Run
+all_states =
     run (numbers 2 1 2 50) (holds 0 3 2 0) (0 ∷ 0 ∷ [])
     (event (Ask 1 1 Read) waits
     ∷ event Slot (done 0 1 1 Reader 0 1)
-    ∷ event (StateOf 1 0) (has_code 0)
+    ∷ event (StateOf 1 0) (in_state I)
     ∷ event (Ask 1 0 (Write 6)) waits
-    ∷ event (StateOf 1 0) (has_code 7)
+    ∷ event (StateOf 1 0) (in_state Imad)
     ∷ event Slot (done 0 1 0 Writer 6 1)
-    ∷ event (StateOf 1 0) (has_code 2)
+    ∷ event (StateOf 1 0) (in_state M)
     ∷ event (Ask 0 0 Read) waits
-    ∷ event (StateOf 0 0) (has_code 5)
+    ∷ event (StateOf 0 0) (in_state Isad)
     ∷ event Slot (waiting 0 0 0 Reader)
-    ∷ event (StateOf 0 0) (has_code 6)
-    ∷ event (StateOf 0 1) (has_code 0)
-    ∷ event (StateOf 1 0) (has_code 4)
+    ∷ event (StateOf 0 0) (in_state Isd)
+    ∷ event (StateOf 0 1) (in_state I)
+    ∷ event (StateOf 1 0) (in_state Mti)
     ∷ event Slot (done 0 0 0 Reader 6 2)
-    ∷ event (StateOf 0 0) (has_code 1)
+    ∷ event (StateOf 0 0) (in_state S)
     ∷ event (Ask 1 0 (Write 2)) waits
     ∷ event Slot (waiting 0 1 0 Writer)
-    ∷ event (StateOf 1 0) (has_code 8)
-    ∷ event (StateOf 0 0) (has_code 3)
-    ∷ event (StateOf 1 1) (has_code 1)
+    ∷ event (StateOf 1 0) (in_state Imd)
+    ∷ event (StateOf 0 0) (in_state Sti)
+    ∷ event (StateOf 1 1) (in_state S)
     ∷ event Slot (waiting 0 1 0 Writer)
     ∷ event Slot (done 0 1 0 Writer 2 3)
-    ∷ event (StateOf 0 0) (has_code 0)
+    ∷ event (StateOf 0 0) (in_state I)
     ∷ [])
     (6 ∷ 0 ∷ [])
 
