@@ -2,7 +2,7 @@
 use crate::op::Op;
 
 // A call: an ask, a slot, a settle, or one of three questions.
-#[derive(Clone, Copy)]
+#[derive(Clone, Copy, Debug, PartialEq, Eq, Hash)]
 pub enum Call {
     Ask { core: usize, line: usize, op: Op },
     Slot,

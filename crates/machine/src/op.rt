@@ -1,6 +1,6 @@
-// What a core asks of a line.
-
-#[derive(Clone, Copy)]
+// What a core asks of a line. An option of the new word is no plainer: `None` would not say that it is a
+// read.
+#[derive(Clone, Copy, Debug, PartialEq, Eq, Hash)]
 pub enum Op {
     Read,
     // With the new word.
@@ -8,7 +8,7 @@ pub enum Op {
 }
 
 // In which role a core asks for a line, or holds a copy of it.
-#[derive(Clone, Copy)]
+#[derive(Clone, Copy, Debug, PartialEq, Eq, Hash)]
 pub enum Role {
     Reader,
     Writer,

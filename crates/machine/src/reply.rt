@@ -4,8 +4,9 @@ use crate::op::Role;
 use setup::bound::{Cycles, Slots};
 use setup::refusal::Refusal;
 
-// What an accepted ask answers.
-#[derive(Clone, Copy)]
+// What an accepted ask answers. An option of the word is no plainer: `Some(word)` would not say that a copy
+// served, nor `None` that the core waits.
+#[derive(Clone, Copy, Debug, PartialEq, Eq, Hash)]
 pub enum AskAnswer {
     // The core's own copy serves at once, with this word.
     Hit { word: u64 },
@@ -14,7 +15,7 @@ pub enum AskAnswer {
 }
 
 // What a slot answers. Its owner is a critical core; its user is the core whose request was tried.
-#[derive(Clone, Copy)]
+#[derive(Clone, Copy, Debug, PartialEq, Eq, Hash)]
 pub enum SlotAnswer {
     // Nobody who could use the slot waits.
     Idle {

@@ -2,7 +2,7 @@
 use crate::op::Op;
 
 // The request of a core. Its wait is the number of slots since its ask.
-#[derive(Clone, Copy)]
+#[derive(Clone, Copy, Debug, PartialEq, Eq, Hash)]
 pub enum Request {
     // Nothing is asked for.
     Free,
