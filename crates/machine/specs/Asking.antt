@@ -1,5 +1,5 @@
 -- An ask: its refusals in their order, and a hit or a new request.
-use Rattle.std.specs.Prelude.{ℕ, Bool, cond, not, Some, None, Option, nat_lt}
+use Rattle.std.specs.Prelude.{ℕ, Bool, if◌then◌else◌, not, Some, None, Option, nat_lt}
 use Rattle.setup.specs.declared.refusal.Refusal.{Refusal}
 use Rattle.setup.specs.declared.refusal.Refusal.TheVariants.{NoSuchCore, NoSuchLine, RequestPending}
 use Rattle.machine.specs.declared.held.Held.{Held}
@@ -16,7 +16,7 @@ use Rattle.machine.specs.State.{State, Outcome, unchanged, with_request}
 
 -- refused where the test fails, else the next test decides
 abbrev pub tested : Bool → Refusal → Option Refusal → Option Refusal
-tested ok e next = cond ok next (Some e)
+tested ok e next = if ok then next else Some e
 
 -- a refused call answers its refusal and changes nothing
 abbrev pub unless : Option Refusal → Outcome → State → Outcome
@@ -44,24 +44,14 @@ new_request core line op s = record { reply = waits; state = with_request core (
 -- a hit touches no timer
 abbrev pub write_hit : ℕ → ℕ → Held → State → Outcome
 write_hit core line new s =
-    record {
-      reply = hit new.word;
-      state = record {
-        copies = put line (put core (Some new) (s.copies line)) s.copies;
-        requests = s.requests;
-        owner = s.owner;
-        mark = s.mark;
-        words = s.words;
-        timing = s.timing;
-      };
-    }
+    record { reply = hit new.word; state = record s { copies = put line (put core (Some new) (s.copies line)) s.copies } }
 
 -- a copy serves reads, and a writer's copy serves writes; all else waits
 abbrev pub accepted : ℕ → ℕ → Op → Option Held → State → Outcome
 accepted core line op None s = new_request core line op s
 accepted core line Read (Some copy) s = unchanged (hit copy.word) s
 accepted core line (Write w) (Some copy) s =
-    cond (is_writer copy.role) (write_hit core line (record copy { word = w }) s) (new_request core line (Write w) s)
+    if is_writer copy.role then write_hit core line (record copy { word = w }) s else new_request core line (Write w) s
 
 unfoldable pub asking : Sizes → ℕ → ℕ → Op → State → Outcome
 asking z core line op s = unless (ask_refusal z core line s) (accepted core line op (s.copies line core) s) s

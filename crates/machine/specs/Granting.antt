@@ -1,5 +1,5 @@
 -- Steps 5 and 6 of a slot: what is in the way of the user's request, and whether it is granted.
-use Rattle.std.specs.Prelude.{ℕ, Bool, true, false, cond, not, ◌&&◌, Option, ◌==◌}
+use Rattle.std.specs.Prelude.{ℕ, Bool, true, false, if◌then◌else◌, not, ◌&&◌, Option, ◌==◌}
 use Rattle.policy.specs.declared.class.Class.{Class}
 use Rattle.policy.specs.declared.class.Class.TheVariants.{Critical, NonCritical}
 use Rattle.machine.specs.declared.held.Held.{Held}
@@ -20,7 +20,7 @@ in_way user (Write w) core held = is_copy held
 
 -- a copy in the way must be out of its hold against the user's class
 abbrev pub lets_pass : ℕ → Op → Class → ℕ → Option Held → Bool
-lets_pass user op c core held = cond (in_way user op core held) (timer c held == 0) true
+lets_pass user op c core held = if in_way user op core held then timer c held == 0 else true
 
 -- nobody of its class is ahead
 abbrev pub is_first : Request → Bool

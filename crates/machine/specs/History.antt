@@ -1,5 +1,5 @@
 -- Histories: what was called and what was answered, the latest first.
-use Rattle.std.specs.Prelude.{◌≡◌, ℕ, suc, min, Bool, true, false, cond, List, [], ◌∷◌, length, None, Ok}
+use Rattle.std.specs.Prelude.{◌≡◌, ℕ, suc, min, Bool, true, false, if◌then◌else◌, List, [], ◌∷◌, length, None, Ok}
 use Rattle.setup.specs.Bound.{bound}
 use Rattle.setup.specs.Limits.{checking}
 use Rattle.setup.specs.declared.draft.Draft.{Draft}
@@ -74,4 +74,4 @@ is_slot BoundOf = false
 
 abbrev pub slots : History → ℕ
 slots [] = 0
-slots (e ∷ h) = cond (is_slot e.call) (suc (slots h)) (slots h)
+slots (e ∷ h) = if is_slot e.call then suc (slots h) else slots h

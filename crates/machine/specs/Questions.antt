@@ -1,5 +1,5 @@
 -- Three questions: which word a line has, which state a core is in on a line, and what the bound is. They change nothing.
-use Rattle.std.specs.Prelude.{ℕ, zero, suc, Bool, false, cond, not, ◌&&◌, Some, None, Option, ◌==◌, slice_index}
+use Rattle.std.specs.Prelude.{ℕ, zero, suc, Bool, false, if◌then◌else◌, not, ◌&&◌, Some, None, Option, ◌==◌, slice_index}
 use Rattle.setup.specs.Bound.{bound, cycles}
 use Rattle.machine.specs.declared.core_state.CoreState.{CoreState}
 use Rattle.machine.specs.declared.core_state.CoreState.TheVariants.{I, S, M, Sti, Mti, Isad, Isd, Imad, Imd}
@@ -22,7 +22,7 @@ use Rattle.machine.specs.State.{State, Outcome, unchanged}
 -- the writer's among the first n cores, else the memory's
 abbrev pub writers_word : (ℕ → Option Held) → ℕ → ℕ → ℕ
 writers_word held zero word = word
-writers_word held (suc n) word = cond (is_writers (held n)) (word_in (held n)) (writers_word held n word)
+writers_word held (suc n) word = if is_writers (held n) then word_in (held n) else writers_word held n word
 
 unfoldable pub telling_word : Sizes → ℕ → State → Outcome
 telling_word z line s =
@@ -39,15 +39,15 @@ blocks i l held j (Ordered line op ahead wait) = line == l && in_way j op i held
 -- where the core has no copy: I, or by its request on that line ISAD, ISD, IMAD or IMD
 abbrev pub request_state : ℕ → Request → CoreState
 request_state l Free = I
-request_state l (Asked line Read wait) = cond (line == l) Isad I
-request_state l (Ordered line Read ahead wait) = cond (line == l) Isd I
-request_state l (Asked line (Write w) wait) = cond (line == l) Imad I
-request_state l (Ordered line (Write w) ahead wait) = cond (line == l) Imd I
+request_state l (Asked line Read wait) = if line == l then Isad else I
+request_state l (Ordered line Read ahead wait) = if line == l then Isd else I
+request_state l (Asked line (Write w) wait) = if line == l then Imad else I
+request_state l (Ordered line (Write w) ahead wait) = if line == l then Imd else I
 
 -- S or STI for a reader's copy, M or MTI for a writer's: the second if it is called for
 abbrev pub copy_state : Role → Bool → CoreState
-copy_state Reader called_for = cond called_for Sti S
-copy_state Writer called_for = cond called_for Mti M
+copy_state Reader called_for = if called_for then Sti else S
+copy_state Writer called_for = if called_for then Mti else M
 
 module _ (z : Sizes) where
   -- whether the copy blocks any request

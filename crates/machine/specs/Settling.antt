@@ -26,12 +26,5 @@ module _ (z : Sizes) where
   settling s =
       record {
         reply = settled (writers_below s.copies z.lines);
-        state = record {
-          copies = s.copies;
-          requests = s.requests;
-          owner = s.owner;
-          mark = s.mark;
-          words = settle_below s.copies z.lines s.words;
-          timing = s.timing;
-        };
+        state = record s { words = settle_below s.copies z.lines s.words };
       }

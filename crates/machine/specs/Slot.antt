@@ -1,5 +1,5 @@
 -- A slot: its eight steps in a row, and its answer.
-use Rattle.std.specs.Prelude.{ℕ, suc, Bool, true, false, cond, Some, None, Option, nat_lt}
+use Rattle.std.specs.Prelude.{ℕ, suc, Bool, true, false, if◌then◌else◌, Some, None, Option, nat_lt}
 use Rattle.policy.specs.Timing.{later}
 use Rattle.machine.specs.declared.request.Request.{Request}
 use Rattle.machine.specs.declared.sizes.Sizes.{Sizes}
@@ -15,18 +15,11 @@ use Rattle.machine.specs.Time.{tick}
 module _ (z : Sizes) where
   -- the next critical core, after the last one core 0
   abbrev pub owner_after : ℕ → ℕ
-  owner_after owner = cond (nat_lt (suc owner) z.critical) (suc owner) 0
+  owner_after owner = if nat_lt (suc owner) z.critical then suc owner else 0
 
   -- 8: the timetable moves on by a slot, and ownership by a core
   unfoldable pub end_slot : State → State
-  end_slot s = record {
-    copies = s.copies;
-    requests = s.requests;
-    owner = owner_after s.owner;
-    mark = s.mark;
-    words = s.words;
-    timing = later s.timing;
-  }
+  end_slot s = record s { owner = owner_after s.owner; timing = later s.timing }
 
   -- 7 and 8: granted, or waiting on
   abbrev pub tried : Bool → State → ℕ → Outcome

@@ -26,11 +26,5 @@ tick_request (Asked line op wait) = Asked line op (tick_wait wait)
 tick_request (Ordered line op ahead wait) = Ordered line op ahead (tick_wait wait)
 
 unfoldable pub tick : State → State
-tick s = record {
-  copies = λ line core. tick_held (s.copies line core);
-  requests = λ core. tick_request (s.requests core);
-  owner = s.owner;
-  mark = s.mark;
-  words = s.words;
-  timing = s.timing;
-}
+tick s =
+    record s { copies = λ line core. tick_held (s.copies line core); requests = λ core. tick_request (s.requests core) }
