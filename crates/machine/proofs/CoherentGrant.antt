@@ -1,5 +1,5 @@
 -- A grant keeps the lines coherent.
-use Rattle.std.proofs.Common.{◌≡◌, ℕ, ◌<◌, Bool, true, false, cond, eqb, ◌≢◌, length, get_or, sym, refl, ap, ◌∙◌, subst, inl, inr, arith, Some, None, Option}
+use Rattle.std.proofs.Common.{◌≡◌, ℕ, ◌<◌, Bool, true, false, cond, eqb, ◌≢◌, length, get_or, sym, refl, ap, ◌∙◌, subst, inl, inr, arith, None, Option}
 use Rattle.std.proofs.lemmas.Bool.{eq-eqb, ne_eqb, cases_eq, cases_lt}
 use Rattle.machine.specs.declared.held.Held.{Held}
 use Rattle.machine.specs.declared.op.Op.{Op}
@@ -21,12 +21,10 @@ ended_nothing way cs i e =
     elim (way i (cs i)) as (λ t. shape (cond t None (cs i)) ≡ nothing) [ true ↦ refl | false ↦ e ]
 
 ended_read : (u i : ℕ) (x : Option Held) → i ≢ u → shape (cond (in_way u Read i x) None x) ≡ no_writer (shape x)
-ended_read u i None ne = rw (ne_eqb i u ne)
-ended_read u i (Some copy) ne = grind (arith, ne_eqb i u ne)
+ended_read u i x ne = grind (arith, ne_eqb i u ne)
 
 ended_write : (u i w : ℕ) (x : Option Held) → shape (cond (in_way u (Write w) i x) None x) ≡ nothing
-ended_write u i w None = refl
-ended_write u i w (Some copy) = refl
+ended_write u i w x = grind arith
 
 -- the word that core u is granted, and the line's last write then
 abbrev pub granted_last : (ℕ → ℕ) → ℕ → Op → ℕ → ℕ

@@ -1,5 +1,5 @@
 -- Reads answer the last finished write: what is computed from a history is what the relations on events say.
-use Rattle.std.proofs.Common.{◌≡◌, ℕ, Bool, true, false, cond, eqb, [], ◌∷◌, ◌++◌, Some, None, Option, sym, refl, ap, ◌∙◌, subst, inl, inr}
+use Rattle.std.proofs.Common.{◌≡◌, ℕ, Bool, true, false, cond, eqb, [], ◌∷◌, ◌++◌, Some, None, Option, sym, refl, ap, ◌∙◌, subst, inl, inr, arith}
 use Rattle.std.proofs.lemmas.Bool.{eq-eqb, ne_eqb, eqb-true, cases_eq, cases_Bool}
 use Rattle.setup.specs.declared.refusal.Refusal.{Refusal}
 use Rattle.policy.specs.Timing.{later}
@@ -7,7 +7,6 @@ use Rattle.machine.specs.declared.call.Call.TheVariants.{Ask}
 use Rattle.machine.specs.declared.op.Op.{Op}
 use Rattle.machine.specs.declared.op.Op.TheVariants.{Read, Write}
 use Rattle.machine.specs.declared.request.Request.{Request}
-use Rattle.machine.specs.declared.request.Request.TheVariants.{Free, Asked, Ordered}
 use Rattle.machine.specs.declared.sizes.Sizes.{Sizes}
 use Rattle.machine.specs.Answering.{Served, before, Unanswered, Answers, at_once, in_slot, Latest, starting, finished, kept}
 use Rattle.machine.specs.Asking.{unless, ask_refusal, accepted, asking}
@@ -28,9 +27,7 @@ use Rattle.machine.proofs.Wishes.{Wish, no_wish, wish, next_wish, wish_in, Answe
 -- Unanswered asks ---------------------------------------------------------------------------------
 
 wish_waiting : (r : Request) (l : ℕ) (o : Op) → wish_of r ≡ wish l o → is_waiting r ≡ true
-wish_waiting Free l o e = absurd (never cc)
-wish_waiting (Asked m p w) l o e = refl
-wish_waiting (Ordered m p a w) l o e = refl
+wish_waiting r l o e = grind arith
 
 -- only a core with a free request is told to wait
 waits_free : (z : Sizes) (s : State) (j l : ℕ) (o : Op) → waits ≡ (asking z j l o s).reply → is_waiting (s.requests j) ≡ false

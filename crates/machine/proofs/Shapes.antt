@@ -39,36 +39,25 @@ abbrev pub Good : Sizes → State → (ℕ → ℕ) → Type 0
 Good z s last = Coherent z.cores z.lines (length s.words) (shapes s) (λ l. get_or s.words l 0) (wishes s) last
 
 pub shape_writer : (x : Option Held) → is_writers x ≡ true → shape x ≡ writes (word_in x)
-shape_writer None e = cc
-shape_writer (Some copy) e = grind arith
+shape_writer x e = grind arith
 
 pub writer_shape : (x : Option Held) (w : ℕ) → shape x ≡ writes w → is_writers x ≡ true
-writer_shape None w e = cc
-writer_shape (Some copy) w e = grind arith
+writer_shape x w e = grind arith
 
 tick_shape : (x : Option Held) → shape (tick_held x) ≡ shape x
-tick_shape None = refl
-tick_shape (Some copy) = refl
+tick_shape x = grind arith
 
 tick_wish : (r : Request) → wish_of (tick_request r) ≡ wish_of r
-tick_wish Free = refl
-tick_wish (Asked l o w) = refl
-tick_wish (Ordered l o a w) = refl
+tick_wish r = grind arith
 
 order_wish : (n : ℕ) (r : Request) → wish_of (ordered_behind n r) ≡ wish_of r
-order_wish n Free = refl
-order_wish n (Asked l o w) = refl
-order_wish n (Ordered l o a w) = refl
+order_wish n r = grind arith
 
 pub up_wish : (z : Sizes) (c : Class) (l k : ℕ) (r : Request) → wish_of (step_up z c l k r) ≡ wish_of r
-up_wish z c l k Free = refl
-up_wish z c l k (Asked l' o w) = refl
-up_wish z c l k (Ordered l' o a w) = refl
+up_wish z c l k r = grind arith
 
 pub waiting_wish : (r : Request) → is_waiting r ≡ true → wish_of r ≡ wish (line_of r) (op_of r)
-waiting_wish Free e = cc
-waiting_wish (Asked l o w) e = refl
-waiting_wish (Ordered l o a w) e = refl
+waiting_wish r e = grind arith
 
 -- the same, place by place
 pub good_same : (z : Sizes) (s s' : State) (last last' : ℕ → ℕ) → ((l i : ℕ) → shapes s' l i ≡ shapes s l i) → s'.words ≡ s.words

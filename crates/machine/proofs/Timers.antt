@@ -1,24 +1,19 @@
 -- Timers and what is in the way, as time passes and copies end.
-use Rattle.std.proofs.Common.{◌≡◌, ℕ, ◌-◌, ◌≤◌, Bool, true, false, cond, refl, arith, Some, None, Option}
+use Rattle.std.proofs.Common.{◌≡◌, ℕ, ◌-◌, ◌≤◌, Bool, true, false, cond, arith, None, Option}
 use Rattle.policy.specs.declared.class.Class.{Class}
-use Rattle.policy.specs.declared.class.Class.TheVariants.{Critical, NonCritical}
+use Rattle.policy.specs.declared.class.Class.TheVariants.{Critical}
 use Rattle.machine.specs.declared.held.Held.{Held}
 use Rattle.machine.specs.declared.op.Op.{Op}
-use Rattle.machine.specs.declared.op.Op.TheVariants.{Read, Write}
 use Rattle.machine.specs.Grant.{ended}
 use Rattle.machine.specs.Granting.{in_way}
 use Rattle.machine.specs.Parts.{timer}
 use Rattle.machine.specs.Time.{tick_held}
 
 pub tick_timer : (c : Class) (x : Option Held) → timer c (tick_held x) ≡ timer c x - 1
-tick_timer c None = refl
-tick_timer Critical (Some copy) = refl
-tick_timer NonCritical (Some copy) = refl
+tick_timer c x = grind arith
 
 pub tick_way : (j i : ℕ) (o : Op) (x : Option Held) → in_way i o j (tick_held x) ≡ in_way i o j x
-tick_way j i o None = refl
-tick_way j i Read (Some copy) = refl
-tick_way j i (Write v) (Some copy) = refl
+tick_way j i o x = grind arith
 
 pub timer_ended : (way : ℕ → Option Held → Bool) (cs : ℕ → Option Held) (j : ℕ) → timer Critical (ended way cs j) ≤ timer Critical (cs j)
 timer_ended way cs j =

@@ -1,5 +1,5 @@
 -- Waits are counted in slots.
-use Rattle.std.proofs.Common.{◌≡◌, ℕ, min, Bool, true, false, ◌∷◌, Some, None, Option, sym, refl, ap, ◌∙◌, subst, inl, inr, arith}
+use Rattle.std.proofs.Common.{◌≡◌, ℕ, min, Bool, true, false, ◌∷◌, Some, None, Option, sym, ap, ◌∙◌, subst, inl, inr, arith}
 use Rattle.policy.specs.Timing.{later}
 use Rattle.machine.specs.declared.call.Call.TheVariants.{Slot}
 use Rattle.machine.specs.declared.op.Role.{Role}
@@ -21,9 +21,7 @@ use Rattle.machine.proofs.Histories.{earlier, cut}
 use Rattle.machine.proofs.StillWaiting.{Still, still_from}
 
 ordered_wait : (n : ℕ) (r : Request) → wait_of (ordered_behind n r) ≡ wait_of r
-ordered_wait n Free = refl
-ordered_wait n (Asked l o w) = refl
-ordered_wait n (Ordered l o a w) = refl
+ordered_wait n r = grind arith
 
 order_wait : (z : Sizes) (s : State) (u : ℕ) → wait_of ((order z s u).requests u) ≡ wait_of (s.requests u)
 unfolding order
