@@ -1,5 +1,5 @@
 -- A request that waits goes on waiting and counts the slots, until a done slot of its core.
-use Rattle.std.proofs.Common.{◌≡◌, ℕ, suc, ◌+◌, min, true, false, cond, ◌≢◌, ◌⊎◌, [], ◌∷◌, ◌++◌, Some, None, Option, sym, refl, ap, subst, inl, inr, arith}
+use Rattle.std.proofs.Common.{◌≡◌, ℕ, suc, ◌+◌, min, true, false, cond, ◌≢◌, ◌⊎◌, [], ◌∷◌, ◌++◌, Some, None, Option, sym, refl, subst, inl, inr, arith}
 use Rattle.std.proofs.lemmas.Bool.{eq-eqb, cases_eq}
 use Rattle.setup.specs.declared.refusal.Refusal.{Refusal}
 use Rattle.policy.specs.declared.class.Class.{Class}
@@ -9,7 +9,7 @@ use Rattle.machine.specs.declared.held.Held.{Held}
 use Rattle.machine.specs.declared.op.Op.{Op}
 use Rattle.machine.specs.declared.op.Op.TheVariants.{Write}
 use Rattle.machine.specs.declared.request.Request.{Request}
-use Rattle.machine.specs.declared.request.Request.TheVariants.{Free, Asked, Ordered}
+use Rattle.machine.specs.declared.request.Request.TheVariants.{Asked}
 use Rattle.machine.specs.declared.sizes.Sizes.{Sizes}
 use Rattle.machine.specs.Answering.{Served, before}
 use Rattle.machine.specs.Arbitration.{user_of, move_mark}
@@ -38,19 +38,13 @@ pub record Still (r : Request) (w : ℕ) : Type 0 where
   pub count : wait_of r ≡ w
 
 still_tick : (r : Request) (w : ℕ) → Still r w → Still (tick_request r) (tick_wait w)
-still_tick Free w x = absurd (never (cc x.waits))
-still_tick (Asked l o n) w x = record { waits = refl; count = ap tick_wait x.count }
-still_tick (Ordered l o a n) w x = record { waits = refl; count = ap tick_wait x.count }
+still_tick r w x = grind arith
 
 still_ordered : (n : ℕ) (r : Request) (w : ℕ) → Still r w → Still (ordered_behind n r) w
-still_ordered n Free w x = x
-still_ordered n (Asked l o k) w x = record { waits = refl; count = x.count }
-still_ordered n (Ordered l o a k) w x = x
+still_ordered n r w x = grind arith
 
 still_up : (z : Sizes) (c : Class) (l k : ℕ) (r : Request) (w : ℕ) → Still r w → Still (step_up z c l k r) w
-still_up z c l k Free w x = x
-still_up z c l k (Asked l' o n) w x = x
-still_up z c l k (Ordered l' o a n) w x = record { waits = refl; count = x.count }
+still_up z c l k r w x = grind arith
 
 module _ (z : Sizes) (i : ℕ) where
   still_order : (s : State) (u w : ℕ) → Still (s.requests i) w → Still ((order z s u).requests i) w

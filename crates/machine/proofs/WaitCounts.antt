@@ -4,7 +4,6 @@ use Rattle.policy.specs.Timing.{later}
 use Rattle.machine.specs.declared.call.Call.TheVariants.{Slot}
 use Rattle.machine.specs.declared.op.Role.{Role}
 use Rattle.machine.specs.declared.request.Request.{Request}
-use Rattle.machine.specs.declared.request.Request.TheVariants.{Free, Asked, Ordered}
 use Rattle.machine.specs.declared.sizes.Sizes.{Sizes}
 use Rattle.machine.specs.Arbitration.{user_of, move_mark}
 use Rattle.machine.specs.Granting.{is_granted}
@@ -48,9 +47,7 @@ done_wait z s owner u l w n k e = go (user_of z (tick s)) e
     go (Some v) e = at (is_granted z (order z (move_mark z (tick s) v) v) v) v e
 
 tick_counts : (r : Request) (w : ℕ) → Still r w → wait_of (tick_request r) ≡ tick_wait w
-tick_counts Free w x = absurd (never (cc x.waits))
-tick_counts (Asked l o n) w x = ap tick_wait x.count
-tick_counts (Ordered l o a n) w x = ap tick_wait x.count
+tick_counts r w x = grind arith
 
 pub waits_are_counted_in_slots : WaitsAreCountedInSlots
 waits_are_counted_in_slots b h s f later before_it since owner core line asked_line word wait role op is un =
