@@ -123,11 +123,7 @@ module _ (c n : ℕ) (c≤n : c ≤ n) (S S' : ℕ → Seat) (u l : ℕ) (u<c : 
       ]
 
   join_len_more : (l' : ℕ) → len c n S l' ≤ len c n S' l'
-  join_len_more l' =
-      elim (cases_eq l l') [
-        | inl e ↦ let x : len c n S' l' ≡ suc (len c n S l') = rw e at join_len in omega arith
-        | inr d ↦ omega (arith, join_len_other l' d)
-      ]
+  join_len_more l' = grind (arith, join_len, join_len_other l')
 
   join_filled : Queues c n S → (l' k : ℕ) → k < len c n S' l' → (j : ℕ) × (j < c) × (S' j ≡ seated l' k)
   join_filled q l' k a =
@@ -143,25 +139,11 @@ module _ (c n : ℕ) (c≤n : c ≤ n) (S S' : ℕ → Seat) (u l : ℕ) (u<c : 
       ]
 
   join_inside : Queues c n S → (l' a j : ℕ) → j < c → S' j ≡ seated l' a → a < len c n S' l'
-  join_inside q l' a j b e =
-      elim (join_from j l' a e) [
-        | inl h ↦ let v : len c n S l ≡ len c n S l' = ap (len c n S) h.1 in let x : len c n S' l' ≡ suc (len c n S l') =
-            rw h.1 at join_len in omega arith
-        | inr h ↦ omega (arith, join_len_more l', q.inside l' a j b h.1)
-      ]
+  join_inside q l' a j b e = grind (arith, join_from j l' a e, join_len, join_len_more l', q.inside l' a j)
 
   join_apart : Queues c n S → (l' a i j : ℕ) → i < c → j < c → S' i ≡ seated l' a → S' j ≡ seated l' a → i ≡ j
   join_apart q l' a i j hi hj ei ej =
-      elim (join_from i l' a ei) [
-        | inl x ↦ elim (join_from j l' a ej) [
-          | inl y ↦ omega arith
-          | inr y ↦ absurd (let v : len c n S l ≡ len c n S l' = ap (len c n S) x.1 in omega (arith, q.inside l' a j hj y.1))
-        ]
-        | inr x ↦ elim (join_from j l' a ej) [
-          | inl y ↦ absurd (let v : len c n S l ≡ len c n S l' = ap (len c n S) y.1 in omega (arith, q.inside l' a i hi x.1))
-          | inr y ↦ q.apart l' a i j hi hj x.1 y.1
-        ]
-      ]
+      grind (arith, join_from i l' a ei, join_from j l' a ej, q.inside l' a, q.apart l' a i j)
 
   pub join : Queues c n S → Queues c n S'
   join q = record { filled = join_filled q; inside = join_inside q; apart = join_apart q }
@@ -223,23 +205,11 @@ module _ (c n : ℕ) (c≤n : c ≤ n) (S S' : ℕ → Seat) (u l : ℕ) (u<c : 
 
   leave_inside : Queues c n S → (l' a j : ℕ) → j < c → S' j ≡ seated l' a → a < len c n S' l'
   leave_inside q l' a j b e =
-      elim (leave_from q j l' a b e).1 [
-        | inl h ↦ let x : len c n S l' ≡ suc (len c n S' l') = rw h.0 at leave_len in omega (arith, q.inside l' (suc a) j b h.1)
-        | inr h ↦ omega (arith, leave_len_other l' h.0, q.inside l' a j b h.1)
-      ]
+      grind (arith, leave_from q j l' a b e, leave_len, leave_len_other l', q.inside l' (suc a) j, q.inside l' a j)
 
   leave_apart : Queues c n S → (l' a i j : ℕ) → i < c → j < c → S' i ≡ seated l' a → S' j ≡ seated l' a → i ≡ j
   leave_apart q l' a i j hi hj ei ej =
-      elim (leave_from q i l' a hi ei).1 [
-        | inl f ↦ elim (leave_from q j l' a hj ej).1 [
-          | inl g ↦ q.apart l' (suc a) i j hi hj f.1 g.1
-          | inr g ↦ absurd (g.0 f.0)
-        ]
-        | inr f ↦ elim (leave_from q j l' a hj ej).1 [
-          | inl g ↦ absurd (f.0 g.0)
-          | inr g ↦ q.apart l' a i j hi hj f.1 g.1
-        ]
-      ]
+      grind (arith, leave_from q i l' a hi ei, leave_from q j l' a hj ej, q.apart l' (suc a) i j, q.apart l' a i j)
 
   pub leave : Queues c n S → Queues c n S'
   leave q = record { filled = leave_filled q; inside = leave_inside q; apart = leave_apart q }

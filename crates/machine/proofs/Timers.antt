@@ -1,5 +1,5 @@
 -- Timers and what is in the way, as time passes and copies end.
-use Rattle.std.proofs.Common.{◌≡◌, ℕ, ◌-◌, ◌≤◌, Bool, true, false, cond, arith, None, Option}
+use Rattle.std.proofs.Common.{◌≡◌, ℕ, ◌-◌, ◌≤◌, Bool, true, arith, Option}
 use Rattle.policy.specs.declared.class.Class.{Class}
 use Rattle.policy.specs.declared.class.Class.TheVariants.{Critical}
 use Rattle.machine.specs.declared.held.Held.{Held}
@@ -16,15 +16,9 @@ pub tick_way : (j i : ℕ) (o : Op) (x : Option Held) → in_way i o j (tick_hel
 tick_way j i o x = grind arith
 
 pub timer_ended : (way : ℕ → Option Held → Bool) (cs : ℕ → Option Held) (j : ℕ) → timer Critical (ended way cs j) ≤ timer Critical (cs j)
-timer_ended way cs j =
-    elim (way j (cs j)) as (λ t. timer Critical (cond t None (cs j)) ≤ timer Critical (cs j))
-    [ true ↦ omega arith | false ↦ omega arith ]
+timer_ended way cs j = grind arith
 
 -- a copy that stays was in the way before
 pub timer_kept : (i j k : ℕ) (o : Op) (way : ℕ → Option Held → Bool) (cs : ℕ → Option Held) → (in_way i o j (cs j) ≡ true → timer Critical (cs j) ≤ k)
     → in_way i o j (ended way cs j) ≡ true → timer Critical (ended way cs j) ≤ k
-timer_kept i j k o way cs h w = go (way j (cs j)) w
-  where
-    go : (t : Bool) → in_way i o j (cond t None (cs j)) ≡ true → timer Critical (cond t None (cs j)) ≤ k
-    go true w = omega arith
-    go false w = h w
+timer_kept i j k o way cs h w = grind arith
