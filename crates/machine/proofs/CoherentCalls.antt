@@ -10,7 +10,7 @@ use Rattle.machine.specs.declared.op.Op.TheVariants.{Read, Write}
 use Rattle.machine.specs.declared.op.Role.{Role}
 use Rattle.machine.specs.declared.op.Role.TheVariants.{Reader, Writer}
 use Rattle.machine.specs.declared.request.Request.{Request}
-use Rattle.machine.specs.declared.request.Request.TheVariants.{Free, Asked, Ordered}
+use Rattle.machine.specs.declared.request.Request.TheVariants.{Asked}
 use Rattle.machine.specs.declared.sizes.Sizes.{Sizes}
 use Rattle.machine.specs.Arbitration.{user_of, move_mark}
 use Rattle.machine.specs.Asking.{unless, ask_refusal, new_request, write_hit, accepted, asking}
@@ -79,9 +79,7 @@ module _ (z : Sizes) (ws : ℕ → Wish) (last : ℕ → ℕ) where
       rw (put_same u (ordered_behind n (s.requests u)) s.requests) (at n (s.requests u) t)
     where
       at : (n : ℕ) (r : Request) → is_waiting r ≡ true → is_waiting (ordered_behind n r) ≡ true
-      at n Free e = e
-      at n (Asked l o w) e = refl
-      at n (Ordered l o a w) e = refl
+      at n r e = grind arith
 
   kept_slot : (s : State) → Good z s last → ((i : ℕ) → ws i ≡ wishes s i) → Kept z Slot (slotting z s) ws last
   unfolding slotting try_user move_mark end_slot
@@ -214,7 +212,7 @@ module _ (z : Sizes) (ws : ℕ → Wish) (last : ℕ → ℕ) where
 
   settle_length : (cs : ℕ → ℕ → Option Held) (n : ℕ) (m : List ℕ) → length (settle_below z cs n m) ≡ length m
   settle_length cs zero m = refl
-  settle_length cs (suc n) m = write_back_length all_copies (cs n) n z.cores (settle_below z cs n m) ∙ settle_length cs n m
+  settle_length cs (suc n) m = grind (arith, write_back_length, settle_length cs n m)
 
   settle_at : (cs : ℕ → ℕ → Option Held) (n : ℕ) (m : List ℕ) (l : ℕ) → n ≤ length m
       → ((i : ℕ) × (x : ℕ) × (shape (cs l i) ≡ writes x)) ⊎ (get_or (settle_below z cs n m) l 0 ≡ get_or m l 0)

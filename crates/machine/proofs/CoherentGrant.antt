@@ -1,5 +1,5 @@
 -- A grant keeps the lines coherent.
-use Rattle.std.proofs.Common.{◌≡◌, ℕ, ◌<◌, Bool, true, false, cond, eqb, ◌≢◌, length, get_or, sym, refl, ap, ◌∙◌, subst, inl, inr, arith, None, Option}
+use Rattle.std.proofs.Common.{◌≡◌, ℕ, ◌<◌, Bool, true, cond, eqb, ◌≢◌, length, get_or, sym, refl, ap, ◌∙◌, subst, inl, inr, arith, None, Option}
 use Rattle.std.proofs.lemmas.Bool.{eq-eqb, ne_eqb, cases_eq, cases_lt}
 use Rattle.machine.specs.declared.held.Held.{Held}
 use Rattle.machine.specs.declared.op.Op.{Op}
@@ -17,8 +17,7 @@ use Rattle.machine.proofs.Wishes.{no_wish, wish}
 use Rattle.machine.proofs.WriteBack.{write_back_length, write_back_other, write_back_same}
 
 ended_nothing : (way : ℕ → Option Held → Bool) (cs : ℕ → Option Held) (i : ℕ) → shape (cs i) ≡ nothing → shape (ended way cs i) ≡ nothing
-ended_nothing way cs i e =
-    elim (way i (cs i)) as (λ t. shape (cond t None (cs i)) ≡ nothing) [ true ↦ refl | false ↦ e ]
+ended_nothing way cs i e = grind arith
 
 ended_read : (u i : ℕ) (x : Option Held) → i ≢ u → shape (cond (in_way u Read i x) None x) ≡ no_writer (shape x)
 ended_read u i x ne = grind (arith, ne_eqb i u ne)

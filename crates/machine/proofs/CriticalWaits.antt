@@ -1,7 +1,6 @@
 -- Critical waits are bounded.
 use Rattle.std.proofs.Common.{◌≡◌, ℕ, ◌⊎◌, ◌∷◌, ◌++◌, Some, None, Option, subst, inl, inr, arith}
 use Rattle.setup.specs.declared.refusal.Refusal.{Refusal}
-use Rattle.policy.specs.Timing.{later}
 use Rattle.machine.specs.declared.call.Call.TheVariants.{Ask}
 use Rattle.machine.specs.declared.op.Op.{Op}
 use Rattle.machine.specs.declared.sizes.Sizes.{Sizes}

@@ -1,6 +1,5 @@
 -- Waits are counted in slots.
 use Rattle.std.proofs.Common.{◌≡◌, ℕ, min, Bool, true, false, ◌∷◌, Some, None, Option, sym, ap, ◌∙◌, subst, inl, inr, arith}
-use Rattle.policy.specs.Timing.{later}
 use Rattle.machine.specs.declared.call.Call.TheVariants.{Slot}
 use Rattle.machine.specs.declared.op.Role.{Role}
 use Rattle.machine.specs.declared.request.Request.{Request}
