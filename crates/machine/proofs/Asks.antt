@@ -10,7 +10,7 @@ use Rattle.machine.specs.declared.op.Role.{Role}
 use Rattle.machine.specs.declared.op.Role.TheVariants.{Reader, Writer}
 use Rattle.machine.specs.declared.sizes.Sizes.{Sizes}
 use Rattle.machine.specs.Asking.{tested, unless, ask_refusal, new_request, write_hit, accepted}
-use Rattle.machine.specs.Parts.{is_writer, is_waiting}
+use Rattle.machine.specs.Parts.{serves_writes, is_waiting}
 use Rattle.machine.specs.Replies.{Reply, hit}
 use Rattle.machine.specs.State.{State, Outcome, unchanged}
 use Rattle.machine.proofs.Counting.{never}
@@ -39,7 +39,7 @@ accepted_all i l s P new read write hit Read (Some copy) = read copy
 accepted_all i l s P new read write hit (Write w) (Some copy) = go copy.role refl
   where
     go : (r : Role) → copy.role ≡ r
-        → P (Write w) (Some copy) (cond (is_writer r) (write_hit i l (record copy { word = w }) s) (new_request i l (Write w) s))
+        → P (Write w) (Some copy) (cond (serves_writes r) (write_hit i l (record copy { word = w }) s) (new_request i l (Write w) s))
     go Reader e = write w copy
     go Writer e = hit w copy e
 

@@ -7,7 +7,7 @@ use Rattle.machine.specs.declared.op.Op.{Op}
 use Rattle.machine.specs.declared.op.Op.TheVariants.{Read, Write}
 use Rattle.machine.specs.declared.request.Request.TheVariants.{Asked}
 use Rattle.machine.specs.declared.sizes.Sizes.{Sizes}
-use Rattle.machine.specs.Parts.{is_writer, is_waiting}
+use Rattle.machine.specs.Parts.{serves_writes, is_waiting}
 use Rattle.machine.specs.Places.{put}
 use Rattle.machine.specs.Replies.{refused, hit, waits}
 use Rattle.machine.specs.State.{State, Outcome, unchanged, with_request}
@@ -51,7 +51,7 @@ abbrev pub accepted : ℕ → ℕ → Op → Option Held → State → Outcome
 accepted core line op None s = new_request core line op s
 accepted core line Read (Some copy) s = unchanged (hit copy.word) s
 accepted core line (Write w) (Some copy) s =
-    if is_writer copy.role then write_hit core line (record copy { word = w }) s else new_request core line (Write w) s
+    if serves_writes copy.role then write_hit core line (record copy { word = w }) s else new_request core line (Write w) s
 
 unfoldable pub asking : Sizes → ℕ → ℕ → Op → State → Outcome
 asking z core line op s = unless (ask_refusal z core line s) (accepted core line op (s.copies line core) s) s

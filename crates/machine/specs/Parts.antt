@@ -1,5 +1,5 @@
 -- The parts of copies and requests.
-use Rattle.std.specs.Prelude.{ℕ, Bool, true, false, Some, None, Option, ◌==◌}
+use Rattle.std.specs.Prelude.{ℕ, Bool, true, false, Some, None, Option, is_some, ◌==◌}
 use Rattle.policy.specs.FourNumbers.{against}
 use Rattle.policy.specs.declared.class.Class.{Class}
 use Rattle.machine.specs.declared.op.Op.{Op}
@@ -14,19 +14,20 @@ abbrev pub role_of : Op → Role
 role_of Read = Reader
 role_of (Write w) = Writer
 
--- Copies: what a core holds of a line is a copy or nothing -----------------------------------------
+-- Copies: what a core holds of a line is a copy or nothing ----------------------------------------
 
 abbrev pub is_copy : Option Held → Bool
-is_copy None = false
-is_copy (Some copy) = true
+is_copy = is_some
 
-abbrev pub is_writer : Role → Bool
-is_writer Reader = false
-is_writer Writer = true
+-- whether a copy that is held in this role serves writes
+abbrev pub serves_writes : Role → Bool
+serves_writes Reader = false
+serves_writes Writer = true
 
+-- whether it is a writer's copy
 abbrev pub is_writers : Option Held → Bool
 is_writers None = false
-is_writers (Some copy) = is_writer copy.role
+is_writers (Some copy) = serves_writes copy.role
 
 abbrev pub word_in : Option Held → ℕ
 word_in None = 0
