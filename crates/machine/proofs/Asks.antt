@@ -1,13 +1,18 @@
--- What an ask that is not refused says of its numbers, and what questions leave.
-use Rattle.std.proofs.Common.{◌≡◌, ℕ, ◌<◌, Bool, true, false, not, ltb, Some, None, Option, refl}
+-- What an ask that is not refused says of its numbers, how it is accepted, and what questions leave.
+use Rattle.std.proofs.Common.{◌≡◌, ℕ, ◌<◌, Bool, true, false, not, ltb, Some, None, Option, refl, cond}
 use Rattle.std.proofs.lemmas.Bool.{ltb-true, not-true}
 use Rattle.setup.specs.declared.refusal.Refusal.{Refusal}
 use Rattle.setup.specs.declared.refusal.Refusal.TheVariants.{NoSuchCore, NoSuchLine, RequestPending}
-use Rattle.machine.specs.declared.reply.Reply.{Reply}
+use Rattle.machine.specs.declared.held.Held.{Held}
+use Rattle.machine.specs.declared.op.Op.{Op}
+use Rattle.machine.specs.declared.op.Op.TheVariants.{Read, Write}
+use Rattle.machine.specs.declared.op.Role.{Role}
+use Rattle.machine.specs.declared.op.Role.TheVariants.{Reader, Writer}
 use Rattle.machine.specs.declared.sizes.Sizes.{Sizes}
-use Rattle.machine.specs.Asking.{tested, unless, ask_refusal}
-use Rattle.machine.specs.Parts.{is_waiting}
-use Rattle.machine.specs.State.{State, unchanged}
+use Rattle.machine.specs.Asking.{tested, unless, ask_refusal, new_request, write_hit, accepted}
+use Rattle.machine.specs.Parts.{serves_writes, is_waiting}
+use Rattle.machine.specs.Replies.{Reply, hit}
+use Rattle.machine.specs.State.{State, Outcome, unchanged}
 use Rattle.machine.proofs.Counting.{never}
 
 tested_none : (ok : Bool) (e : Refusal) (next : Option Refusal) → tested ok e next ≡ None → (ok ≡ true) × (next ≡ None)
@@ -21,6 +26,22 @@ ask_accepted z i l s e =
     let line = tested_none (ltb l z.lines) NoSuchLine _ core.1 in
     let free = tested_none (not (is_waiting (s.requests i))) RequestPending None line.1 in
     (ltb-true i z.cores core.0, ltb-true l z.lines line.0, not-true (is_waiting (s.requests i)) free.0)
+
+-- what holds of each way in which an ask is accepted
+pub accepted_all : (i l : ℕ) (s : State) (P : Op → Option Held → Outcome → Type 0)
+    → ((o : Op) → P o None (new_request i l o s))
+    → ((copy : Held) → P Read (Some copy) (unchanged (hit copy.word) s))
+    → ((w : ℕ) (copy : Held) → P (Write w) (Some copy) (new_request i l (Write w) s))
+    → ((w : ℕ) (copy : Held) → copy.role ≡ Writer → P (Write w) (Some copy) (write_hit i l (record copy { word = w }) s))
+    → (o : Op) (x : Option Held) → P o x (accepted i l o x s)
+accepted_all i l s P new read write hit o None = new o
+accepted_all i l s P new read write hit Read (Some copy) = read copy
+accepted_all i l s P new read write hit (Write w) (Some copy) = go copy.role refl
+  where
+    go : (r : Role) → copy.role ≡ r
+        → P (Write w) (Some copy) (cond (serves_writes r) (write_hit i l (record copy { word = w }) s) (new_request i l (Write w) s))
+    go Reader e = write w copy
+    go Writer e = hit w copy e
 
 pub unless_same : (v : Option Refusal) (r : Reply) (s : State) → (unless v (unchanged r s) s).state ≡ s
 unless_same None r s = refl

@@ -19,14 +19,10 @@ no_writer (reads x) = reads x
 no_writer (writes x) = nothing
 
 no_writer_writes : {V : Type 0} (t : Shape V) (x : V) → no_writer t ≡ writes x → ⊥
-no_writer_writes nothing x e = never cc
-no_writer_writes (reads y) x e = never cc
-no_writer_writes (writes y) x e = never cc
+no_writer_writes t x e = grind arith
 
 no_writer_reads : {V : Type 0} (t : Shape V) (x : V) → no_writer t ≡ reads x → t ≡ reads x
-no_writer_reads nothing x e = cc
-no_writer_reads (reads y) x e = e
-no_writer_reads (writes y) x e = cc
+no_writer_reads t x e = grind arith
 
 -- One line: n cores with their shapes, the memory's word, the last write's word ------------------
 

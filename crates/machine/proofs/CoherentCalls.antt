@@ -5,15 +5,15 @@ use Rattle.setup.specs.declared.refusal.Refusal.{Refusal}
 use Rattle.machine.specs.declared.call.Call.{Call}
 use Rattle.machine.specs.declared.call.Call.TheVariants.{Ask, Slot, Settle, WordOf, StateOf, BoundOf}
 use Rattle.machine.specs.declared.held.Held.{Held}
-use Rattle.machine.specs.declared.held.Held.TheVariants.{Nothing, Copy}
 use Rattle.machine.specs.declared.op.Op.{Op}
 use Rattle.machine.specs.declared.op.Op.TheVariants.{Read, Write}
+use Rattle.machine.specs.declared.op.Role.{Role}
 use Rattle.machine.specs.declared.op.Role.TheVariants.{Reader, Writer}
 use Rattle.machine.specs.declared.request.Request.{Request}
-use Rattle.machine.specs.declared.request.Request.TheVariants.{Free, Asked, Ordered}
+use Rattle.machine.specs.declared.request.Request.TheVariants.{Asked}
 use Rattle.machine.specs.declared.sizes.Sizes.{Sizes}
 use Rattle.machine.specs.Arbitration.{user_of, move_mark}
-use Rattle.machine.specs.Asking.{unless, ask_refusal, new_request, accepted, asking}
+use Rattle.machine.specs.Asking.{unless, ask_refusal, new_request, write_hit, accepted, asking}
 use Rattle.machine.specs.Grant.{granted_word, grant}
 use Rattle.machine.specs.Granting.{is_granted}
 use Rattle.machine.specs.History.{Start, sizes, fresh, History, From, begun, called}
@@ -26,13 +26,13 @@ use Rattle.machine.specs.Settling.{all_copies, settle_below, settling}
 use Rattle.machine.specs.Slot.{end_slot, tried, try_user, used_by, slotting}
 use Rattle.machine.specs.State.{State, Outcome, class_of}
 use Rattle.machine.specs.Time.{tick}
-use Rattle.machine.proofs.Asks.{ask_accepted, unless_same}
+use Rattle.machine.proofs.Asks.{ask_accepted, accepted_all, unless_same}
 use Rattle.machine.proofs.Coherence.{nothing, writes, Line, line_stored, line_writer}
 use Rattle.machine.proofs.CoherentGrant.{granted_last, words_last, grant_wish, grant_wish_user, good_grant}
 use Rattle.machine.proofs.Counting.{never, put_same, put_other, put_all}
 use Rattle.machine.proofs.Effects.{effect}
 use Rattle.machine.proofs.Grants.{the_line}
-use Rattle.machine.proofs.Shapes.{shape, wish_of, shapes, wishes, Good, shape_writer, waiting_wish, good_same, ticked_wish, good_tick, ordered_wish, good_order}
+use Rattle.machine.proofs.Shapes.{shape_of, shape, wish_of, shapes, wishes, Good, shape_writer, waiting_wish, good_same, ticked_wish, good_tick, ordered_wish, good_order}
 use Rattle.machine.proofs.Users.{user_waits}
 use Rattle.machine.proofs.Wishes.{Wish, wish, next_wish, wish_in, answer, granted_wish, answer_by, after_answer, last_write}
 use Rattle.machine.proofs.WriteBack.{write_back_length, write_back_other, write_back_same}
@@ -79,9 +79,7 @@ module _ (z : Sizes) (ws : ℕ → Wish) (last : ℕ → ℕ) where
       rw (put_same u (ordered_behind n (s.requests u)) s.requests) (at n (s.requests u) t)
     where
       at : (n : ℕ) (r : Request) → is_waiting r ≡ true → is_waiting (ordered_behind n r) ≡ true
-      at n Free e = e
-      at n (Asked l o w) e = refl
-      at n (Ordered l o a w) e = refl
+      at n r e = grind arith
 
   kept_slot : (s : State) → Good z s last → ((i : ℕ) → ws i ≡ wishes s i) → Kept z Slot (slotting z s) ws last
   unfolding slotting try_user move_mark end_slot
@@ -138,16 +136,16 @@ module _ (z : Sizes) (ws : ℕ → Wish) (last : ℕ → ℕ) where
       ]
 
   -- a write hit
-  kept_hit : (s : State) (j l x y : ℕ) (t : _) → j < z.cores → s.copies l j ≡ Copy Writer y t → Good z s last
+  kept_hit : (s : State) (j l x : ℕ) (old : Held) → j < z.cores → s.copies l j ≡ Some old → old.role ≡ Writer → Good z s last
       → ((i : ℕ) → ws i ≡ wishes s i)
-      → Kept z (Ask j l (Write x)) (accepted j l (Write x) (Copy Writer y t) s) ws last
-  kept_hit s j l x y t hj was g e =
+      → Kept z (Ask j l (Write x)) (write_hit j l (record old { word = x }) s) ws last
+  kept_hit s j l x old hj was writers g e =
       record {
         good = record {
           line = λ k. put_all (λ m cs. Line z.cores (λ i. shape (cs i)) (get_or s.words m 0) (cond (eqb m l) x (last m))) l
-              (put j (Copy Writer x t) (s.copies l)) s.copies
+              (put j (Some new) (s.copies l)) s.copies
               here (λ m ne. rw (ne_eqb m l ne) (g.line m)) k;
-          absent = λ i k a. put_all (λ m cs. m ≡ k → shape (cs i) ≡ nothing) l (put j (Copy Writer x t) (s.copies l)) s.copies
+          absent = λ i k a. put_all (λ m cs. m ≡ k → shape (cs i) ≡ nothing) l (put j (Some new) (s.copies l)) s.copies
               (λ same. gone i (rw (← same) at (g.absent i k a))) (λ m ne same. rw same (g.absent i k a)) k refl;
           room = g.room;
           fits = g.fits;
@@ -156,45 +154,53 @@ module _ (z : Sizes) (ws : ℕ → Wish) (last : ℕ → ℕ) where
         right = λ i k w a. absurd (never cc);
       }
     where
-      new : ℕ → Held
-      new = put j (Copy Writer x t) (s.copies l)
+      its_shape : shapes s l j ≡ writes old.word
+      its_shape = ap shape was ∙ ap (λ r. shape_of r old.word) writers
 
-      alone : (i : ℕ) → i ≢ j → shape (new i) ≡ nothing
-      alone i ne = ap shape (put_other j i (Copy Writer x t) (s.copies l) ne) ∙ (g.line l).alone j i y (ap shape was) ne
+      new : Held
+      new = record old { word = x }
 
-      here : Line z.cores (λ i. shape (new i)) (get_or s.words l 0) (cond (eqb l l) x (last l))
+      held : ℕ → Option Held
+      held = put j (Some new) (s.copies l)
+
+      new_shape : shape (held j) ≡ writes x
+      new_shape = ap shape (put_same j (Some new) (s.copies l)) ∙ ap (λ r. shape_of r x) writers
+
+      alone : (i : ℕ) → i ≢ j → shape (held i) ≡ nothing
+      alone i ne = ap shape (put_other j i (Some new) (s.copies l) ne) ∙ (g.line l).alone j i old.word its_shape ne
+
+      here : Line z.cores (λ i. shape (held i)) (get_or s.words l 0) (cond (eqb l l) x (last l))
       here = rw (eq-eqb l l refl)
-          (line_writer z.cores (λ i. shape (new i)) (get_or s.words l 0) j x hj (ap shape (put_same j (Copy Writer x t) (s.copies l)))
-          alone)
+          (line_writer z.cores (λ i. shape (held i)) (get_or s.words l 0) j x hj new_shape alone)
 
-      gone : (i : ℕ) → shapes s l i ≡ nothing → shape (new i) ≡ nothing
+      gone : (i : ℕ) → shapes s l i ≡ nothing → shape (held i) ≡ nothing
       gone i n = elim (cases_eq i j) [
-        | inl same ↦ absurd (let v : shapes s l j ≡ nothing = rw same at n in let q : shapes s l j ≡ writes y = ap shape was in never cc)
+        | inl same ↦ absurd (let v : shapes s l j ≡ nothing = rw same at n in never (cc its_shape))
         | inr ne ↦ alone i ne
       ]
 
-  kept_accepted : (s : State) (j l : ℕ) (o : Op) (cp : Held) → j < z.cores → l < z.lines → s.copies l j ≡ cp → Good z s last
+  -- every copy has the last write's word
+  copy_last : (s : State) (j l : ℕ) (copy : Held) → s.copies l j ≡ Some copy → Good z s last → copy.word ≡ last l
+  copy_last s j l copy was g = go copy.role (ap shape was)
+    where
+      go : (r : Role) → shapes s l j ≡ shape_of r copy.word → copy.word ≡ last l
+      go Reader e = (g.line l).read_word j copy.word e
+      go Writer e = (g.line l).write_word j copy.word e
+
+  kept_accepted : (s : State) (j l : ℕ) (o : Op) (x : Option Held) → j < z.cores → l < z.lines → s.copies l j ≡ x → Good z s last
       → ((i : ℕ) → ws i ≡ wishes s i)
-      → Kept z (Ask j l o) (accepted j l o cp s) ws last
-  kept_accepted s j l Read Nothing hj hl was g e = kept_new s j l Read hj hl (λ _. ap shape was) g e
-  kept_accepted s j l Read (Copy Reader w t) hj hl was g e =
-      record {
+      → Kept z (Ask j l o) (accepted j l o x s) ws last
+  kept_accepted s j l o x hj hl was g e =
+      accepted_all j l s (λ o x out. s.copies l j ≡ x → Kept z (Ask j l o) out ws last)
+      (λ o was. kept_new s j l o hj hl (λ _. ap shape was) g e)
+      (λ copy was. record {
         good = g;
         asks = e;
-        right = λ i k x a. let x_is : w ≡ x = cc in let l_is : l ≡ k =
-            cc in sym x_is ∙ ((g.line l).read_word j w (ap shape was) ∙ ap last l_is);
-      }
-  kept_accepted s j l Read (Copy Writer w t) hj hl was g e =
-      record {
-        good = g;
-        asks = e;
-        right = λ i k x a. let x_is : w ≡ x = cc in let l_is : l ≡ k =
-            cc in sym x_is ∙ ((g.line l).write_word j w (ap shape was) ∙ ap last l_is);
-      }
-  kept_accepted s j l (Write x) Nothing hj hl was g e = kept_new s j l (Write x) hj hl (λ _. ap shape was) g e
-  kept_accepted s j l (Write x) (Copy Reader w t) hj hl was g e =
-      kept_new s j l (Write x) hj hl (λ a. absurd (never cc)) g e
-  kept_accepted s j l (Write x) (Copy Writer w t) hj hl was g e = kept_hit s j l x w t hj was g e
+        right = λ i k w a. let l_is : l ≡ k = cc in let w_is : copy.word ≡ w = cc in sym w_is ∙ (copy_last s j l copy was g ∙ ap last l_is);
+      })
+      (λ w copy was. kept_new s j l (Write w) hj hl (λ a. absurd (never cc)) g e)
+      (λ w copy writers was. kept_hit s j l w copy hj was writers g e)
+      o x was
 
   kept_ask : (s : State) (j l : ℕ) (o : Op) → Good z s last → ((i : ℕ) → ws i ≡ wishes s i) → Kept z (Ask j l o) (asking z j l o s) ws last
   unfolding asking
@@ -204,11 +210,11 @@ module _ (z : Sizes) (ws : ℕ → Wish) (last : ℕ → ℕ) where
       go None a = let f = ask_accepted z j l s a in kept_accepted s j l o (s.copies l j) f.0 f.1 refl g e
       go (Some refusal) a = record { good = g; asks = e; right = λ i k x y. absurd (never cc) }
 
-  settle_length : (cs : ℕ → ℕ → Held) (n : ℕ) (m : List ℕ) → length (settle_below z cs n m) ≡ length m
+  settle_length : (cs : ℕ → ℕ → Option Held) (n : ℕ) (m : List ℕ) → length (settle_below z cs n m) ≡ length m
   settle_length cs zero m = refl
-  settle_length cs (suc n) m = write_back_length all_copies (cs n) n z.cores (settle_below z cs n m) ∙ settle_length cs n m
+  settle_length cs (suc n) m = grind (arith, write_back_length, settle_length cs n m)
 
-  settle_at : (cs : ℕ → ℕ → Held) (n : ℕ) (m : List ℕ) (l : ℕ) → n ≤ length m
+  settle_at : (cs : ℕ → ℕ → Option Held) (n : ℕ) (m : List ℕ) (l : ℕ) → n ≤ length m
       → ((i : ℕ) × (x : ℕ) × (shape (cs l i) ≡ writes x)) ⊎ (get_or (settle_below z cs n m) l 0 ≡ get_or m l 0)
   settle_at cs zero m l h = inr refl
   settle_at cs (suc n) m l h =

@@ -1,11 +1,9 @@
 -- A grant keeps the lines coherent.
-use Rattle.std.proofs.Common.{◌≡◌, ℕ, ◌<◌, Bool, true, false, cond, eqb, ◌≢◌, length, get_or, sym, refl, ap, ◌∙◌, subst, inl, inr, arith}
+use Rattle.std.proofs.Common.{◌≡◌, ℕ, ◌<◌, Bool, true, cond, eqb, ◌≢◌, length, get_or, sym, refl, ap, ◌∙◌, subst, inl, inr, arith, None, Option}
 use Rattle.std.proofs.lemmas.Bool.{eq-eqb, ne_eqb, cases_eq, cases_lt}
 use Rattle.machine.specs.declared.held.Held.{Held}
-use Rattle.machine.specs.declared.held.Held.TheVariants.{Nothing, Copy}
 use Rattle.machine.specs.declared.op.Op.{Op}
 use Rattle.machine.specs.declared.op.Op.TheVariants.{Read, Write}
-use Rattle.machine.specs.declared.op.Role.TheVariants.{Reader, Writer}
 use Rattle.machine.specs.declared.sizes.Sizes.{Sizes}
 use Rattle.machine.specs.Grant.{ended, words_after, granted_word, grant}
 use Rattle.machine.specs.Granting.{in_way}
@@ -18,19 +16,14 @@ use Rattle.machine.proofs.Shapes.{shape, wish_of, shapes, wishes, Good, shape_wr
 use Rattle.machine.proofs.Wishes.{no_wish, wish}
 use Rattle.machine.proofs.WriteBack.{write_back_length, write_back_other, write_back_same}
 
-ended_nothing : (way : ℕ → Held → Bool) (cs : ℕ → Held) (i : ℕ) → shape (cs i) ≡ nothing → shape (ended way cs i) ≡ nothing
-ended_nothing way cs i e =
-    elim (way i (cs i)) as (λ t. shape (cond t Nothing (cs i)) ≡ nothing) [ true ↦ refl | false ↦ e ]
+ended_nothing : (way : ℕ → Option Held → Bool) (cs : ℕ → Option Held) (i : ℕ) → shape (cs i) ≡ nothing → shape (ended way cs i) ≡ nothing
+ended_nothing way cs i e = grind arith
 
-ended_read : (u i : ℕ) (x : Held) → i ≢ u → shape (cond (in_way u Read i x) Nothing x) ≡ no_writer (shape x)
-ended_read u i Nothing ne = rw (ne_eqb i u ne)
-ended_read u i (Copy Reader v t) ne = rw (ne_eqb i u ne)
-ended_read u i (Copy Writer v t) ne = rw (ne_eqb i u ne)
+ended_read : (u i : ℕ) (x : Option Held) → i ≢ u → shape (cond (in_way u Read i x) None x) ≡ no_writer (shape x)
+ended_read u i x ne = grind (arith, ne_eqb i u ne)
 
-ended_write : (u i w : ℕ) (x : Held) → shape (cond (in_way u (Write w) i x) Nothing x) ≡ nothing
-ended_write u i w Nothing = refl
-ended_write u i w (Copy Reader v t) = refl
-ended_write u i w (Copy Writer v t) = refl
+ended_write : (u i w : ℕ) (x : Option Held) → shape (cond (in_way u (Write w) i x) None x) ≡ nothing
+ended_write u i w x = grind arith
 
 -- the word that core u is granted, and the line's last write then
 abbrev pub granted_last : (ℕ → ℕ) → ℕ → Op → ℕ → ℕ
@@ -53,7 +46,7 @@ module _ (z : Sizes) (s : State) (u : ℕ) (last : ℕ → ℕ) (g : Good z s la
       l : ℕ
       l = the_line z s u
 
-      cs : ℕ → Held
+      cs : ℕ → Option Held
       cs = s.copies l
 
       here : Line z.cores (shapes s l) (get_or s.words l 0) (last l)

@@ -24,15 +24,11 @@ put_all P i v f new old j =
 
 count_le : (p : ℕ → Bool) (n : ℕ) → count_below p n ≤ n
 count_le p zero = omega arith
-count_le p (suc n) =
-    elim (p n) as (λ t. cond t (suc (count_below p n)) (count_below p n) ≤ suc n)
-    [ true ↦ omega (arith, count_le p n) | false ↦ omega (arith, count_le p n) ]
+count_le p (suc n) = grind (arith, count_le p n)
 
 pub count_same : (p q : ℕ → Bool) (n : ℕ) → ((k : ℕ) → k < n → p k ≡ q k) → count_below p n ≡ count_below q n
 count_same p q zero h = refl
-count_same p q (suc n) h =
-    let ih = count_same p q n (λ k l. h k (omega arith)) in
-    rw (h n (omega arith), ih)
+count_same p q (suc n) h = rw (h n (omega arith), count_same p q n (λ k l. h k (omega arith)))
 
 -- one that passed passes no more
 pub count_one_less : (p q : ℕ → Bool) (i n : ℕ) → i < n → p i ≡ true → q i ≡ false
@@ -48,9 +44,7 @@ count_one_less p q i (suc n) l a b h =
       | inr ne ↦
           let ih = count_one_less p q i n (omega arith) a b h in
           let e : p n ≡ q n = h n (omega arith) in
-          rw (e, ih) (elim (q n) as
-          (λ t. cond t (suc (suc (count_below q n))) (suc (count_below q n)) ≡ suc (cond t (suc (count_below q n)) (count_below q n)))
-          [ true ↦ refl | false ↦ refl ])
+          grind arith
     ]
 
 pub count_none : (p : ℕ → Bool) (n : ℕ) → ((k : ℕ) → p k ≡ false) → count_below p n ≡ 0
@@ -60,12 +54,7 @@ count_none p (suc n) h = rw (h n, count_none p n h)
 -- only numbers below c pass
 count_capped : (p : ℕ → Bool) (c n : ℕ) → ((k : ℕ) → p k ≡ true → k < c) → count_below p n ≤ c
 count_capped p c zero h = omega arith
-count_capped p c (suc n) h =
-    go (p n) refl (count_capped p c n h)
-  where
-    go : (t : Bool) → p n ≡ t → count_below p n ≤ c → cond t (suc (count_below p n)) (count_below p n) ≤ c
-    go true e ih = omega (arith, h n e, count_le p n)
-    go false e ih = ih
+count_capped p c (suc n) h = grind (arith, h n, count_le p n, count_capped p c n h)
 
 -- .. and one of them does not
 pub count_missed : (p : ℕ → Bool) (c i n : ℕ) → ((k : ℕ) → p k ≡ true → k < c) → i < c → p i ≡ false → count_below p n < c
@@ -85,10 +74,4 @@ all_from p (suc n) h = rw (h n (omega arith), all_from p n (λ i l. h i (omega a
 
 pub first_found : (p : ℕ → Bool) (n k u : ℕ) → first_from p n k ≡ Some u → (k ≤ u) × (u < k + n) × (p u ≡ true)
 first_found p zero k u e = absurd (never cc)
-first_found p (suc n) k u e = go (p k) refl e (first_found p n (suc k) u)
-  where
-    go : (t : Bool) → p k ≡ t → cond t (Some k) (first_from p n (suc k)) ≡ Some u
-        → (first_from p n (suc k) ≡ Some u → (suc k ≤ u) × (u < suc k + n) × (p u ≡ true))
-        → (k ≤ u) × (u < k + suc n) × (p u ≡ true)
-    go true a e ih = let same : k ≡ u = cc in (omega arith, omega arith, cc)
-    go false a e ih = let r = ih e in (omega arith, omega arith, r.2)
+first_found p (suc n) k u e = grind (arith, first_found p n (suc k) u)

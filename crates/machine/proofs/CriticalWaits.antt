@@ -1,39 +1,31 @@
 -- Critical waits are bounded.
 use Rattle.std.proofs.Common.{◌≡◌, ℕ, ◌⊎◌, ◌∷◌, ◌++◌, Some, None, Option, subst, inl, inr, arith}
 use Rattle.setup.specs.declared.refusal.Refusal.{Refusal}
-use Rattle.policy.specs.Timing.{later}
 use Rattle.machine.specs.declared.call.Call.TheVariants.{Ask}
-use Rattle.machine.specs.declared.held.Held.{Held}
-use Rattle.machine.specs.declared.held.Held.TheVariants.{Nothing, Copy}
 use Rattle.machine.specs.declared.op.Op.{Op}
-use Rattle.machine.specs.declared.op.Op.TheVariants.{Read, Write}
-use Rattle.machine.specs.declared.op.Role.TheVariants.{Reader, Writer}
-use Rattle.machine.specs.declared.reply.AskAnswer.TheVariants.{Hit, Waits}
-use Rattle.machine.specs.declared.reply.Reply.{Reply}
-use Rattle.machine.specs.declared.reply.Reply.TheVariants.{Refused, ToAsk}
 use Rattle.machine.specs.declared.sizes.Sizes.{Sizes}
 use Rattle.machine.specs.Asking.{unless, ask_refusal, accepted, asking}
 use Rattle.machine.specs.CriticalWaits.{CriticalWaitsAreBounded}
 use Rattle.machine.specs.History.{sizes, event, From}
+use Rattle.machine.specs.Replies.{Reply, refused, hit, waits}
 use Rattle.machine.specs.State.{State}
+use Rattle.machine.proofs.Asks.{accepted_all}
 use Rattle.machine.proofs.Histories.{earlier, cut, limits_from, lawful_from}
 use Rattle.machine.proofs.ReadyCalls.{wait_below, bound_small}
 use Rattle.machine.proofs.StillWaiting.{still_from}
 
 -- an ask that is not refused hits or waits
-ask_replies : (z : Sizes) (s : State) (i l : ℕ) (o : Op) (r : Reply) → r ≡ (asking z i l o s).reply → ((e : Refusal) → r ≡ Refused e → ⊥)
-    → ((w : ℕ) × (r ≡ ToAsk (Hit w))) ⊎ (r ≡ ToAsk Waits)
+ask_replies : (z : Sizes) (s : State) (i l : ℕ) (o : Op) (r : Reply) → r ≡ (asking z i l o s).reply → ((e : Refusal) → r ≡ refused e → ⊥)
+    → ((w : ℕ) × (r ≡ hit w)) ⊎ (r ≡ waits)
 unfolding asking
-ask_replies z s i l o r e not_refused = go (ask_refusal z i l s) o (s.copies l i) e
+ask_replies z s i l o r e not_refused = go (ask_refusal z i l s) e
   where
-    go : (v : Option Refusal) (o : Op) (x : Held) → r ≡ (unless v (accepted i l o x s) s).reply
-        → ((w : ℕ) × (r ≡ ToAsk (Hit w))) ⊎ (r ≡ ToAsk Waits)
-    go None Read Nothing e = inr e
-    go None Read (Copy k w t) e = inl (w, e)
-    go None (Write v) Nothing e = inr e
-    go None (Write v) (Copy Reader w t) e = inr e
-    go None (Write v) (Copy Writer w t) e = inl (v, e)
-    go (Some refusal) o x e = absurd (not_refused refusal e)
+    go : (v : Option Refusal) → r ≡ (unless v (accepted i l o (s.copies l i) s) s).reply → ((w : ℕ) × (r ≡ hit w)) ⊎ (r ≡ waits)
+    go None e =
+        accepted_all i l s (λ o x out. r ≡ out.reply → ((w : ℕ) × (r ≡ hit w)) ⊎ (r ≡ waits))
+        (λ o e. inr e) (λ copy e. inl (copy.word, e)) (λ w copy e. inr e) (λ w copy _ e. inl (w, e))
+        o (s.copies l i) e
+    go (Some refusal) e = absurd (not_refused refusal e)
 
 pub critical_waits_are_bounded : CriticalWaitsAreBounded
 critical_waits_are_bounded b h s f later since before_it core line o r is not_refused critical =

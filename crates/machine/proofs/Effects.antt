@@ -1,48 +1,31 @@
 -- What an event does to requests, told from its call and reply.
-use Rattle.std.proofs.Common.{◌≡◌, ℕ, Bool, true, false, eqb, ◌⊎◌, ◌∷◌, sym, refl, ap, ◌∙◌, subst, inl, inr}
+use Rattle.std.proofs.Common.{◌≡◌, ℕ, Bool, true, false, eqb, ◌⊎◌, ◌∷◌, Ok, sym, refl, ap, ◌∙◌, subst, inl, inr}
 use Rattle.std.proofs.lemmas.Bool.{eq-eqb, eqb-true}
 use Rattle.machine.specs.declared.call.Call.{Call}
-use Rattle.machine.specs.declared.call.Call.TheVariants.{Ask, Slot, Settle, WordOf, StateOf, BoundOf}
+use Rattle.machine.specs.declared.call.Call.TheVariants.{Ask, Slot}
 use Rattle.machine.specs.declared.op.Op.{Op}
 use Rattle.machine.specs.declared.op.Role.{Role}
+use Rattle.machine.specs.declared.reply.Answer.TheVariants.{ToAsk, ToSlot}
 use Rattle.machine.specs.declared.reply.AskAnswer.TheVariants.{Hit, Waits}
-use Rattle.machine.specs.declared.reply.Reply.{Reply}
-use Rattle.machine.specs.declared.reply.Reply.TheVariants.{Refused, ToAsk, ToSlot, Settled, Word, Code, Bound}
-use Rattle.machine.specs.declared.reply.SlotAnswer.TheVariants.{Idle, Waiting, Done}
+use Rattle.machine.specs.declared.reply.SlotAnswer.TheVariants.{Done}
 use Rattle.machine.specs.Answering.{Served, now, before}
 use Rattle.machine.specs.History.{Event, event, History}
+use Rattle.machine.specs.Replies.{Reply, hit, waits, done}
 use Rattle.machine.proofs.Counting.{never}
 
 pub data Effect : Type 0 where
   no_effect : Effect
   -- a core's ask for a line was told to wait, or was a hit with a word
-  waits : ℕ → ℕ → Op → Effect
+  begins : ℕ → ℕ → Op → Effect
   hits : ℕ → ℕ → Op → ℕ → Effect
   -- a done slot of a core, with a word
   serves : ℕ → ℕ → Effect
 
 abbrev pub effect : Call → Reply → Effect
-effect (Ask i l o) (Refused e) = no_effect
-effect (Ask i l o) (ToAsk (Hit w)) = hits i l o w
-effect (Ask i l o) (ToAsk Waits) = waits i l o
-effect (Ask i l o) (ToSlot a) = no_effect
-effect (Ask i l o) (Settled n) = no_effect
-effect (Ask i l o) (Word w) = no_effect
-effect (Ask i l o) (Code n) = no_effect
-effect (Ask i l o) (Bound n m) = no_effect
-effect Slot (Refused e) = no_effect
-effect Slot (ToAsk a) = no_effect
-effect Slot (ToSlot (Idle owner)) = no_effect
-effect Slot (ToSlot (Waiting owner user line role)) = no_effect
-effect Slot (ToSlot (Done owner user line role word wait)) = serves user word
-effect Slot (Settled n) = no_effect
-effect Slot (Word w) = no_effect
-effect Slot (Code n) = no_effect
-effect Slot (Bound n m) = no_effect
-effect Settle r = no_effect
-effect (WordOf l) r = no_effect
-effect (StateOf i l) r = no_effect
-effect BoundOf r = no_effect
+effect (Ask i l o) (Ok (ToAsk (Hit w))) = hits i l o w
+effect (Ask i l o) (Ok (ToAsk Waits)) = begins i l o
+effect Slot (Ok (ToSlot (Done owner user line role word wait))) = serves user word
+effect _ _ = no_effect
 
 abbrev pub effect_of : Event → Effect
 effect_of e = effect e.call e.reply
@@ -50,32 +33,15 @@ effect_of e = effect e.call e.reply
 -- which event has an effect
 abbrev pub Caused : Effect → Event → Type 0
 Caused no_effect e = Unit {0}
-Caused (waits i l o) e = e ≡ event (Ask i l o) (ToAsk Waits)
-Caused (hits i l o w) e = e ≡ event (Ask i l o) (ToAsk (Hit w))
-Caused (serves i w) e = (owner line wait : ℕ) × (role : Role) × (e ≡ event Slot (ToSlot (Done owner i line role w wait)))
+Caused (begins i l o) e = e ≡ event (Ask i l o) waits
+Caused (hits i l o w) e = e ≡ event (Ask i l o) (hit w)
+Caused (serves i w) e = (owner line wait : ℕ) × (role : Role) × (e ≡ event Slot (done owner i line role w wait))
 
 caused_by : (c : Call) (r : Reply) → Caused (effect c r) (event c r)
-caused_by (Ask i l o) (Refused e) = tt
-caused_by (Ask i l o) (ToAsk (Hit w)) = refl
-caused_by (Ask i l o) (ToAsk Waits) = refl
-caused_by (Ask i l o) (ToSlot a) = tt
-caused_by (Ask i l o) (Settled n) = tt
-caused_by (Ask i l o) (Word w) = tt
-caused_by (Ask i l o) (Code n) = tt
-caused_by (Ask i l o) (Bound n m) = tt
-caused_by Slot (Refused e) = tt
-caused_by Slot (ToAsk a) = tt
-caused_by Slot (ToSlot (Idle owner)) = tt
-caused_by Slot (ToSlot (Waiting owner user line role)) = tt
-caused_by Slot (ToSlot (Done owner user line role word wait)) = (owner, line, wait, role, refl)
-caused_by Slot (Settled n) = tt
-caused_by Slot (Word w) = tt
-caused_by Slot (Code n) = tt
-caused_by Slot (Bound n m) = tt
-caused_by Settle r = tt
-caused_by (WordOf l) r = tt
-caused_by (StateOf i l) r = tt
-caused_by BoundOf r = tt
+caused_by (Ask i l o) (Ok (ToAsk (Hit w))) = refl
+caused_by (Ask i l o) (Ok (ToAsk Waits)) = refl
+caused_by Slot (Ok (ToSlot (Done owner user line role word wait))) = (owner, line, wait, role, refl)
+caused_by _ _ = tt
 
 pub caused : (e : Event) (x : Effect) → effect_of e ≡ x → Caused x e
 caused e x q = subst (λ y. Caused y e) q (caused_by e.call e.reply)
@@ -84,7 +50,7 @@ caused e x q = subst (λ y. Caused y e) q (caused_by e.call e.reply)
 
 abbrev pub is_served : ℕ → Effect → Bool
 is_served i no_effect = false
-is_served i (waits j l o) = false
+is_served i (begins j l o) = false
 is_served i (hits j l o w) = false
 is_served i (serves j w) = eqb i j
 
@@ -93,7 +59,7 @@ served_now i e h t = go (effect_of e) refl t
   where
     go : (x : Effect) → effect_of e ≡ x → is_served i x ≡ true → Served i (e ∷ h)
     go no_effect q t = absurd (never cc)
-    go (waits j l o) q t = absurd (never cc)
+    go (begins j l o) q t = absurd (never cc)
     go (hits j l o w) q t = absurd (never cc)
     go (serves j w) q t =
         let y = caused e (serves i w) (q ∙ ap (λ k. serves k w) (sym (eqb-true i j t))) in

@@ -1,15 +1,11 @@
 -- Reads answer the last finished write: what is computed from a history is what the relations on events say.
-use Rattle.std.proofs.Common.{◌≡◌, ℕ, Bool, true, false, cond, eqb, [], ◌∷◌, ◌++◌, Some, None, Option, sym, refl, ap, ◌∙◌, subst, inl, inr}
+use Rattle.std.proofs.Common.{◌≡◌, ℕ, Bool, true, false, cond, eqb, [], ◌∷◌, ◌++◌, Some, None, Option, sym, refl, ap, ◌∙◌, subst, inl, inr, arith}
 use Rattle.std.proofs.lemmas.Bool.{eq-eqb, ne_eqb, eqb-true, cases_eq, cases_Bool}
 use Rattle.setup.specs.declared.refusal.Refusal.{Refusal}
-use Rattle.policy.specs.Timing.{later}
 use Rattle.machine.specs.declared.call.Call.TheVariants.{Ask}
 use Rattle.machine.specs.declared.op.Op.{Op}
 use Rattle.machine.specs.declared.op.Op.TheVariants.{Read, Write}
-use Rattle.machine.specs.declared.reply.AskAnswer.TheVariants.{Waits}
-use Rattle.machine.specs.declared.reply.Reply.TheVariants.{ToAsk}
 use Rattle.machine.specs.declared.request.Request.{Request}
-use Rattle.machine.specs.declared.request.Request.TheVariants.{Free, Asked, Ordered}
 use Rattle.machine.specs.declared.sizes.Sizes.{Sizes}
 use Rattle.machine.specs.Answering.{Served, before, Unanswered, Answers, at_once, in_slot, Latest, starting, finished, kept}
 use Rattle.machine.specs.Asking.{unless, ask_refusal, accepted, asking}
@@ -17,11 +13,12 @@ use Rattle.machine.specs.FreshReads.{ReadsAnswerTheLastFinishedWrite}
 use Rattle.machine.specs.History.{Start, sizes, Event, event, History, From, begun, called}
 use Rattle.machine.specs.Machine.{step}
 use Rattle.machine.specs.Parts.{is_waiting}
+use Rattle.machine.specs.Replies.{waits}
 use Rattle.machine.specs.State.{State}
 use Rattle.machine.proofs.Asks.{ask_accepted}
 use Rattle.machine.proofs.CoherentCalls.{kept_from, story}
 use Rattle.machine.proofs.Counting.{never}
-use Rattle.machine.proofs.Effects.{Effect, no_effect, waits, hits, serves, effect, effect_of, caused, is_served, served_now, served_when}
+use Rattle.machine.proofs.Effects.{Effect, no_effect, begins, hits, serves, effect, effect_of, caused, is_served, served_now, served_when}
 use Rattle.machine.proofs.Histories.{Earlier, earlier, cut}
 use Rattle.machine.proofs.Shapes.{wish_of}
 use Rattle.machine.proofs.Wishes.{Wish, no_wish, wish, next_wish, wish_in, Answer, no_answer, answer, granted_wish, answer_by, answer_of, after_answer, last_write}
@@ -29,16 +26,14 @@ use Rattle.machine.proofs.Wishes.{Wish, no_wish, wish, next_wish, wish_in, Answe
 -- Unanswered asks ---------------------------------------------------------------------------------
 
 wish_waiting : (r : Request) (l : ℕ) (o : Op) → wish_of r ≡ wish l o → is_waiting r ≡ true
-wish_waiting Free l o e = absurd (never cc)
-wish_waiting (Asked m p w) l o e = refl
-wish_waiting (Ordered m p a w) l o e = refl
+wish_waiting r l o e = grind arith
 
 -- only a core with a free request is told to wait
-waits_free : (z : Sizes) (s : State) (j l : ℕ) (o : Op) → ToAsk Waits ≡ (asking z j l o s).reply → is_waiting (s.requests j) ≡ false
+waits_free : (z : Sizes) (s : State) (j l : ℕ) (o : Op) → waits ≡ (asking z j l o s).reply → is_waiting (s.requests j) ≡ false
 unfolding asking
 waits_free z s j l o e = go (ask_refusal z j l s) refl e
   where
-    go : (v : Option Refusal) → ask_refusal z j l s ≡ v → ToAsk Waits ≡ (unless v (accepted j l o (s.copies l j) s) s).reply
+    go : (v : Option Refusal) → ask_refusal z j l s ≡ v → waits ≡ (unless v (accepted j l o (s.copies l j) s) s).reply
         → is_waiting (s.requests j) ≡ false
     go None a e = (ask_accepted z j l s a).2
     go (Some refusal) a e = absurd (never cc)
@@ -56,11 +51,11 @@ wish_kept b i l o e h s u w unserved = go (effect_of e) refl unserved
           | inl t ↦ absurd (n t)
           | inr f ↦ rw f
         ]
-    go (waits j m p) q n =
+    go (begins j m p) q n =
         elim (cases_eq i j) [
           | inl same ↦
-              let is : e ≡ event (Ask j m p) (ToAsk Waits) = caused e (waits j m p) q in
-              let told : ToAsk Waits ≡ (asking (sizes b) j m p u.state).reply =
+              let is : e ≡ event (Ask j m p) waits = caused e (begins j m p) q in
+              let told : waits ≡ (asking (sizes b) j m p u.state).reply =
               sym (ap (λ x. x.reply) is) ∙ (u.replied ∙ ap (λ x. (step (sizes b) x.call u.state).reply) is) in
               let free : is_waiting (u.state.requests j) ≡ false = waits_free (sizes b) u.state j m p told in
               let busy : is_waiting (u.state.requests i) ≡ true =
@@ -71,12 +66,12 @@ wish_kept b i l o e h s u w unserved = go (effect_of e) refl unserved
         ]
 
 unanswered_wish : (b : Start) (i l : ℕ) (o : Op) (since before_it : History) (s : State)
-    → From b (since ++ (event (Ask i l o) (ToAsk Waits) ∷ before_it)) s → (Served i since → ⊥)
-    → wish_in (since ++ (event (Ask i l o) (ToAsk Waits) ∷ before_it)) i ≡ wish l o
+    → From b (since ++ (event (Ask i l o) waits ∷ before_it)) s → (Served i since → ⊥)
+    → wish_in (since ++ (event (Ask i l o) waits ∷ before_it)) i ≡ wish l o
 unanswered_wish b i l o [] before_it s f n = rw (eq-eqb i i refl)
 unanswered_wish b i l o (e ∷ since) before_it s f n =
     let u = earlier b f in
-    let h : History = since ++ (event (Ask i l o) (ToAsk Waits) ∷ before_it) in
+    let h : History = since ++ (event (Ask i l o) waits ∷ before_it) in
     let w : wish_in h i ≡ wish l o = unanswered_wish b i l o since before_it u.state u.from (λ y. n (before y)) in
     ap (next_wish i (effect_of e)) w ∙ wish_kept b i l o e h s u w (λ d. n (served_now i e since d))
 
@@ -105,12 +100,12 @@ wish_unanswered i l o (e ∷ h) w = go (effect_of e) refl w (λ a. wish_unanswer
         at : (t : Bool) → eqb i j ≡ t → cond t no_wish (wish_in h i) ≡ wish l o → (since : History) × Unanswered i l o since (e ∷ h)
         at true t w = absurd (never cc)
         at false t w = unanswered_more i l o e h (rw (q, t)) (rest w)
-    go (waits j m p) q w rest = at (eqb i j) refl w
+    go (begins j m p) q w rest = at (eqb i j) refl w
       where
         at : (t : Bool) → eqb i j ≡ t → cond t (wish m p) (wish_in h i) ≡ wish l o → (since : History) × Unanswered i l o since (e ∷ h)
         at true t w =
-            let its : waits j m p ≡ waits i l o = rw (← eqb-true i j t) (cc) in
-            let is : e ≡ event (Ask i l o) (ToAsk Waits) = caused e (waits i l o) (q ∙ its) in
+            let its : begins j m p ≡ begins i l o = rw (← eqb-true i j t) (cc) in
+            let is : e ≡ event (Ask i l o) waits = caused e (begins i l o) (q ∙ its) in
             ([], record { earlier = h; asked = ap (λ x. x ∷ h) is; unserved = none_served i })
         at false t w = unanswered_more i l o e h (rw q) (rest w)
 
@@ -142,7 +137,7 @@ computed_answers core line o w e h a = go (effect_of e) refl a
 
     go : (x : Effect) → effect_of e ≡ x → answer_by (wish_in h) x ≡ answer core line o w → Answers core line o w e h
     go no_effect q a = absurd (never cc)
-    go (waits i l p) q a = absurd (never cc)
+    go (begins i l p) q a = absurd (never cc)
     go (hits i l p x) q a =
         let its : hits i l p x ≡ hits core line o w = cc in
         rw (caused e (hits core line o w) (q ∙ its)) at_once

@@ -1,7 +1,6 @@
 -- What a grant leaves, place by place.
-use Rattle.std.proofs.Common.{◌≡◌, ℕ, Bool, ◌≢◌, ap, ◌∙◌}
+use Rattle.std.proofs.Common.{◌≡◌, ℕ, Bool, ◌≢◌, ap, ◌∙◌, Some, Option}
 use Rattle.machine.specs.declared.held.Held.{Held}
-use Rattle.machine.specs.declared.held.Held.TheVariants.{Copy}
 use Rattle.machine.specs.declared.request.Request.TheVariants.{Free}
 use Rattle.machine.specs.declared.sizes.Sizes.{Sizes}
 use Rattle.machine.specs.Grant.{ended, step_up, granted_word, loaded, grant}
@@ -15,25 +14,25 @@ module _ (z : Sizes) (s : State) (u : ℕ) where
   abbrev pub the_line : ℕ
   the_line = line_of (s.requests u)
 
-  abbrev pub the_way : ℕ → Held → Bool
+  abbrev pub the_way : ℕ → Option Held → Bool
   the_way = in_way u (op_of (s.requests u))
 
   abbrev pub new_copy : Held
-  new_copy = Copy (role_of (op_of (s.requests u))) (granted_word z s u) (loaded z s u the_line)
+  new_copy = record { role = role_of (op_of (s.requests u)); word = granted_word z s u; timers = loaded z s u the_line }
 
   pub grant_there : (l j : ℕ) → l ≢ the_line → (grant z s u).copies l j ≡ s.copies l j
   unfolding grant
-  grant_there l j ne = ap (λ f. f j) (put_other the_line l (put u new_copy (ended the_way (s.copies the_line))) s.copies ne)
+  grant_there l j ne = ap (λ f. f j) (put_other the_line l (put u (Some new_copy) (ended the_way (s.copies the_line))) s.copies ne)
 
-  grant_line : (j : ℕ) → (grant z s u).copies the_line j ≡ put u new_copy (ended the_way (s.copies the_line)) j
+  grant_line : (j : ℕ) → (grant z s u).copies the_line j ≡ put u (Some new_copy) (ended the_way (s.copies the_line)) j
   unfolding grant
-  grant_line j = ap (λ f. f j) (put_same the_line (put u new_copy (ended the_way (s.copies the_line))) s.copies)
+  grant_line j = ap (λ f. f j) (put_same the_line (put u (Some new_copy) (ended the_way (s.copies the_line))) s.copies)
 
-  pub grant_new : (grant z s u).copies the_line u ≡ new_copy
-  grant_new = grant_line u ∙ put_same u new_copy (ended the_way (s.copies the_line))
+  pub grant_new : (grant z s u).copies the_line u ≡ Some new_copy
+  grant_new = grant_line u ∙ put_same u (Some new_copy) (ended the_way (s.copies the_line))
 
   pub grant_rest : (j : ℕ) → j ≢ u → (grant z s u).copies the_line j ≡ ended the_way (s.copies the_line) j
-  grant_rest j ne = grant_line j ∙ put_other u j new_copy (ended the_way (s.copies the_line)) ne
+  grant_rest j ne = grant_line j ∙ put_other u j (Some new_copy) (ended the_way (s.copies the_line)) ne
 
   pub grant_user : (grant z s u).requests u ≡ Free
   unfolding grant

@@ -1,6 +1,6 @@
 -- Histories one event shorter, or cut at an event.
 use Rattle.std.proofs.Common.{◌≡◌, [], ◌∷◌, ◌++◌, refl}
-use Rattle.policy.specs.Timing.{Lawful, later}
+use Rattle.policy.specs.Timing.{Lawful}
 use Rattle.machine.specs.History.{Start, sizes, Event, History, From, begun, called}
 use Rattle.machine.specs.Machine.{step}
 use Rattle.machine.specs.State.{State}

@@ -1,90 +1,79 @@
 -- Writers are alone.
-use Rattle.std.proofs.Common.{◌≡◌, ℕ, ◌≤◌, Bool, true, false, cond, eqb, ◌⊎◌, Some, None, Option, sym, refl, inl, inr, arith}
+use Rattle.std.proofs.Common.{◌≡◌, ℕ, Bool, true, false, Some, None, Option, refl, arith, sym}
 use Rattle.setup.specs.declared.refusal.Refusal.{Refusal}
 use Rattle.machine.specs.declared.call.Call.TheVariants.{StateOf}
+use Rattle.machine.specs.declared.core_state.CoreState.{CoreState}
+use Rattle.machine.specs.declared.core_state.CoreState.TheVariants.{S, M, Sti, Mti}
 use Rattle.machine.specs.declared.held.Held.{Held}
-use Rattle.machine.specs.declared.held.Held.TheVariants.{Nothing, Copy}
-use Rattle.machine.specs.declared.op.Op.TheVariants.{Read, Write}
+use Rattle.machine.specs.declared.op.Role.{Role}
 use Rattle.machine.specs.declared.op.Role.TheVariants.{Reader, Writer}
-use Rattle.machine.specs.declared.reply.Reply.{Reply}
-use Rattle.machine.specs.declared.reply.Reply.TheVariants.{Code}
 use Rattle.machine.specs.declared.request.Request.{Request}
-use Rattle.machine.specs.declared.request.Request.TheVariants.{Free, Asked, Ordered}
 use Rattle.machine.specs.declared.sizes.Sizes.{Sizes}
 use Rattle.machine.specs.Asking.{unless, test_core, test_line}
 use Rattle.machine.specs.History.{sizes}
 use Rattle.machine.specs.LoneWriters.{Writers, in_m, in_mti, Copied, writers, in_s, in_sti, WritersAreAlone}
 use Rattle.machine.specs.Machine.{step}
 use Rattle.machine.specs.Parts.{word_in}
-use Rattle.machine.specs.Questions.{request_code, is_called_for, code_of, telling_state}
+use Rattle.machine.specs.Questions.{request_state, copy_state, is_called_for, core_state, telling_state}
+use Rattle.machine.specs.Replies.{Reply, refused, in_state}
 use Rattle.machine.specs.State.{State, unchanged}
 use Rattle.machine.proofs.Coherence.{nothing, writes}
 use Rattle.machine.proofs.CoherentCalls.{story}
 use Rattle.machine.proofs.Counting.{never}
-use Rattle.machine.proofs.Shapes.{shape}
+use Rattle.machine.proofs.Shapes.{shape_of, shape}
 
--- no code of a request is a copy's
-pub data Copyless (n : ℕ) : Type 0 where
-  copyless : (n ≡ 0) ⊎ (5 ≤ n) → Copyless n
+abbrev has_copy : CoreState → Bool
+has_copy S = true
+has_copy M = true
+has_copy Sti = true
+has_copy Mti = true
+has_copy _ = false
 
-one_of : (t : Bool) (n : ℕ) → 5 ≤ n → Copyless (cond t n 0)
-one_of true n h = copyless (inr h)
-one_of false n h = copyless (inl refl)
+copied_has : (c : CoreState) → Copied (in_state c) → has_copy c ≡ true
+copied_has c (writers in_m) = refl
+copied_has c (writers in_mti) = refl
+copied_has c in_s = refl
+copied_has c in_sti = refl
 
-request_copyless : (l : ℕ) (r : Request) → Copyless (request_code l r)
-request_copyless l Free = copyless (inl refl)
-request_copyless l (Asked m Read w) = one_of (eqb m l) 5 (omega arith)
-request_copyless l (Ordered m Read a w) = one_of (eqb m l) 6 (omega arith)
-request_copyless l (Asked m (Write x) w) = one_of (eqb m l) 7 (omega arith)
-request_copyless l (Ordered m (Write x) a w) = one_of (eqb m l) 8 (omega arith)
+-- no state of a request tells of a copy, and no refusal
+request_has : (l : ℕ) (r : Request) → has_copy (request_state l r) ≡ false
+request_has l r = grind arith
 
-copyless_not : (n k : ℕ) → Copyless n → n ≡ k → 1 ≤ k → k ≤ 4 → ⊥
-copyless_not n k (copyless (inl e)) same low high = omega arith
-copyless_not n k (copyless (inr e)) same low high = omega arith
+request_copied : (l : ℕ) (r : Request) → Copied (in_state (request_state l r)) → ⊥
+request_copied l r c = let t = copied_has (request_state l r) c in let f = request_has l r in never cc
+
+refused_copied : (e : Refusal) → Copied (refused e) → ⊥
+refused_copied e c = elim c [ writers w ↦ elim w [ ] ]
 
 module _ (z : Sizes) (s : State) (i l : ℕ) where
-  -- a copy's code is told of a copy alone, and a writer's of a writer's
-  code_copied : (x : Held) (k : ℕ) → code_of z s i l x ≡ k → 1 ≤ k → k ≤ 4 → shape x ≡ nothing → ⊥
-  code_copied Nothing k e low high none = copyless_not (request_code l (s.requests i)) k (request_copyless l (s.requests i)) e low high
-  code_copied (Copy Reader w t) k e low high none = never cc
-  code_copied (Copy Writer w t) k e low high none = never cc
+  -- a copy's state is told of a copy alone, and a writer's of a writer's
+  state_copied : (x : Option Held) → Copied (in_state (core_state z s i l x)) → shape x ≡ nothing → ⊥
+  state_copied None c none = request_copied l (s.requests i) c
+  state_copied (Some copy) c none = grind arith
 
-  code_writers : (x : Held) (k : ℕ) → code_of z s i l x ≡ k → (k ≡ 2) ⊎ (k ≡ 4) → shape x ≡ writes (word_in x)
-  code_writers Nothing k e d =
-      absurd (copyless_not (request_code l (s.requests i)) k (request_copyless l (s.requests i)) e
-      (elim d [ inl a ↦ omega arith | inr a ↦ omega arith ]) (elim d [ inl a ↦ omega arith | inr a ↦ omega arith ]))
-  code_writers (Copy Reader w t) k e d = absurd (go (is_called_for z s i l (Copy Reader w t)) e)
+  state_writers : (x : Option Held) → Writers (in_state (core_state z s i l x)) → shape x ≡ writes (word_in x)
+  state_writers None w = absurd (request_copied l (s.requests i) (writers w))
+  state_writers (Some copy) w = go copy.role (is_called_for z s i l (Some copy)) w
     where
-      go : (t : Bool) → cond t 3 1 ≡ k → ⊥
-      go true e = elim d [ inl a ↦ omega arith | inr a ↦ omega arith ]
-      go false e = elim d [ inl a ↦ omega arith | inr a ↦ omega arith ]
-  code_writers (Copy Writer w t) k e d = refl
+      go : (r : Role) (t : Bool) → Writers (in_state (copy_state r t)) → shape_of r copy.word ≡ writes copy.word
+      go Writer t w = refl
+      go Reader true w = elim w [ ]
+      go Reader false w = elim w [ ]
 
-  -- the question for the state tells the code
-  told_code : (k : ℕ) → (step z (StateOf i l) s).reply ≡ Code k → code_of z s i l (s.copies l i) ≡ k
+  -- the question for the state tells the state, or is refused
+  told : (P : Reply → Type 0) → ((e : Refusal) → P (refused e) → ⊥) → P (step z (StateOf i l) s).reply
+      → P (in_state (core_state z s i l (s.copies l i)))
   unfolding telling_state
-  told_code k e = go (test_core z i (test_line z l None)) e
+  told P not_refused p = go (test_core z i (test_line z l None)) p
     where
-      go : (v : Option Refusal) → (unless v (unchanged (Code (code_of z s i l (s.copies l i))) s) s).reply ≡ Code k
-          → code_of z s i l (s.copies l i) ≡ k
-      go None e = cc
-      go (Some refusal) e = absurd (never cc)
-
-writers_code : (r : Reply) → Writers r → (k : ℕ) × (r ≡ Code k) × ((k ≡ 2) ⊎ (k ≡ 4))
-writers_code r in_m = (2, refl, inl refl)
-writers_code r in_mti = (4, refl, inr refl)
-
-copied_code : (r : Reply) → Copied r → (k : ℕ) × (r ≡ Code k) × (1 ≤ k) × (k ≤ 4)
-copied_code r (writers in_m) = (2, refl, omega arith, omega arith)
-copied_code r (writers in_mti) = (4, refl, omega arith, omega arith)
-copied_code r in_s = (1, refl, omega arith, omega arith)
-copied_code r in_sti = (3, refl, omega arith, omega arith)
+      go : (v : Option Refusal) → P (unless v (unchanged (in_state (core_state z s i l (s.copies l i))) s) s).reply
+          → P (in_state (core_state z s i l (s.copies l i)))
+      go None p = p
+      go (Some e) p = absurd (not_refused e p)
 
 pub writers_are_alone : WritersAreAlone
 writers_are_alone b h s f line i j ne w c =
     let z : Sizes = sizes b in
-    let m = writers_code (step z (StateOf i line) s).reply w in
-    let n = copied_code (step z (StateOf j line) s).reply c in
-    let writer = code_writers z s i line (s.copies line i) m.0 (told_code z s i line m.0 m.1) m.2 in
+    let writer = state_writers z s i line (s.copies line i) (told z s i line Writers (λ e w. refused_copied e (writers w)) w) in
     let alone = ((story b f).good.line line).alone i j (word_in (s.copies line i)) writer (λ e. ne (sym e)) in
-    code_copied z s j line (s.copies line j) n.0 (told_code z s j line n.0 n.1) n.2 n.3 alone
+    state_copied z s j line (s.copies line j) (told z s j line Copied refused_copied c) alone

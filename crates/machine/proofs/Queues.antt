@@ -1,6 +1,7 @@
 -- The critical requests in order on each line: who sits where. There are c critical cores among n.
 use Rattle.std.proofs.Common.{◌≡◌, ℕ, suc, ◌-◌, ◌<◌, ◌≤◌, Bool, true, false, cond, ◌&&◌, eqb, ltb, ◌≢◌, ◌⊎◌, sym, refl, ap, ◌∙◌, ap₂, inl, inr, arith}
-use Rattle.std.proofs.lemmas.Bool.{eq-eqb, ne_eqb, cases_eq, cases_lt, and_parts, and_right, lt-ltb, le-ltb, ltb-true}
+use Rattle.std.proofs.lemmas.Bool.{eq-eqb, ne_eqb, cases_eq, cases_lt, and_parts, and_right, lt-ltb, ltb-true}
+use Rattle.std.proofs.lemmas.Bool.Decides.{nat_tests}
 use Rattle.machine.specs.Places.{count_below}
 use Rattle.machine.proofs.Counting.{never, count_same, count_one_less, count_none, count_missed}
 
@@ -25,8 +26,7 @@ pub up_there : (l l' a : ℕ) → l' ≢ l → up l (seated l' a) ≡ seated l' 
 up_there l l' a h = rw (ne_eqb l' l h)
 
 on_up : (l l' : ℕ) (t : Seat) → on l' (up l t) ≡ on l' t
-on_up l l' unseated = refl
-on_up l l' (seated l'' a) = refl
+on_up l l' t = grind arith
 
 -- a seat after the step comes from one before
 up_from : (l l' a : ℕ) (t : Seat) → up l t ≡ seated l' a → (a' : ℕ) × (t ≡ seated l' a') × (a ≡ cond (eqb l' l) (a' - 1) a')
@@ -59,10 +59,7 @@ sits_no c t l k e = and_right (ltb k c) (on l t) e
 -- nothing changes where no critical core's seat does
 len_same : (c n : ℕ) (S S' : ℕ → Seat) (l : ℕ) → ((j : ℕ) → j < c → on l (S' j) ≡ on l (S j)) → len c n S' l ≡ len c n S l
 unfolding len
-len_same c n S S' l h = count_same (sits c n S' l) (sits c n S l) n (λ k _. at k)
-  where
-    at : (k : ℕ) → ltb k c && on l (S' k) ≡ ltb k c && on l (S k)
-    at k = elim (cases_lt k c) [ inl a ↦ rw (h k a) | inr b ↦ rw (le-ltb k c b) ]
+len_same c n S S' l h = count_same (sits c n S' l) (sits c n S l) n (λ k _. grind (arith, nat_tests, h k))
 
 pub queues_same : (c n : ℕ) (S S' : ℕ → Seat) → ((j : ℕ) → j < c → S' j ≡ S j) → Queues c n S → Queues c n S'
 queues_same c n S S' h q =
@@ -104,30 +101,17 @@ module _ (c n : ℕ) (c≤n : c ≤ n) (S S' : ℕ → Seat) (u l : ℕ) (u<c : 
       (sits_no c (S u) l u (rw was)) (λ k ne. rw (rest k ne))
 
   join_len_other : (l' : ℕ) → l ≢ l' → len c n S' l' ≡ len c n S l'
-  join_len_other l' ne = len_same c n S S' l' (λ j _. at j)
-    where
-      at : (j : ℕ) → on l' (S' j) ≡ on l' (S j)
-      at j = elim (cases_eq j u) [ inl e ↦ rw (e, was, now_is, ne_eqb l l' ne) | inr d ↦ rw (rest j d) ]
+  join_len_other l' ne = len_same c n S S' l' (λ j _. grind (arith, nat_tests, rest j))
 
   not_user : (j l' a : ℕ) → S j ≡ seated l' a → j ≢ u
   not_user j l' a e same = never cc
 
   join_from : (j l' a : ℕ) → S' j ≡ seated l' a
       → ((j ≡ u) × (l ≡ l') × (a ≡ len c n S l)) ⊎ ((j ≢ u) × (S j ≡ seated l' a))
-  join_from j l' a e =
-      elim (cases_eq j u) [
-        | inl same ↦
-            let x : S' u ≡ seated l' a = rw same at e in
-            inl (same, cc, cc)
-        | inr d ↦ inr (d, sym (rest j d) ∙ e)
-      ]
+  join_from j l' a e = grind (arith, rest j)
 
   join_len_more : (l' : ℕ) → len c n S l' ≤ len c n S' l'
-  join_len_more l' =
-      elim (cases_eq l l') [
-        | inl e ↦ let x : len c n S' l' ≡ suc (len c n S l') = rw e at join_len in omega arith
-        | inr d ↦ omega (arith, join_len_other l' d)
-      ]
+  join_len_more l' = grind (arith, join_len, join_len_other l')
 
   join_filled : Queues c n S → (l' k : ℕ) → k < len c n S' l' → (j : ℕ) × (j < c) × (S' j ≡ seated l' k)
   join_filled q l' k a =
@@ -143,25 +127,11 @@ module _ (c n : ℕ) (c≤n : c ≤ n) (S S' : ℕ → Seat) (u l : ℕ) (u<c : 
       ]
 
   join_inside : Queues c n S → (l' a j : ℕ) → j < c → S' j ≡ seated l' a → a < len c n S' l'
-  join_inside q l' a j b e =
-      elim (join_from j l' a e) [
-        | inl h ↦ let v : len c n S l ≡ len c n S l' = ap (len c n S) h.1 in let x : len c n S' l' ≡ suc (len c n S l') =
-            rw h.1 at join_len in omega arith
-        | inr h ↦ omega (arith, join_len_more l', q.inside l' a j b h.1)
-      ]
+  join_inside q l' a j b e = grind (arith, join_from j l' a e, join_len, join_len_more l', q.inside l' a j)
 
   join_apart : Queues c n S → (l' a i j : ℕ) → i < c → j < c → S' i ≡ seated l' a → S' j ≡ seated l' a → i ≡ j
   join_apart q l' a i j hi hj ei ej =
-      elim (join_from i l' a ei) [
-        | inl x ↦ elim (join_from j l' a ej) [
-          | inl y ↦ omega arith
-          | inr y ↦ absurd (let v : len c n S l ≡ len c n S l' = ap (len c n S) x.1 in omega (arith, q.inside l' a j hj y.1))
-        ]
-        | inr x ↦ elim (join_from j l' a ej) [
-          | inl y ↦ absurd (let v : len c n S l ≡ len c n S l' = ap (len c n S) y.1 in omega (arith, q.inside l' a i hi x.1))
-          | inr y ↦ q.apart l' a i j hi hj x.1 y.1
-        ]
-      ]
+      grind (arith, join_from i l' a ei, join_from j l' a ej, q.inside l' a, q.apart l' a i j)
 
   pub join : Queues c n S → Queues c n S'
   join q = record { filled = join_filled q; inside = join_inside q; apart = join_apart q }
@@ -194,16 +164,10 @@ module _ (c n : ℕ) (c≤n : c ≤ n) (S S' : ℕ → Seat) (u l : ℕ) (u<c : 
   unfolding len
   leave_len =
       count_one_less (sits c n S l) (sits c n S' l) u n (omega arith) (sits_yes c S l 0 u u<c was)
-      (sits_no c (S' u) l u (rw now_is)) (λ k ne. at k ne)
-    where
-      at : (k : ℕ) → k ≢ u → ltb k c && on l (S k) ≡ ltb k c && on l (S' k)
-      at k ne = elim (cases_lt k c) [ inl a ↦ rw (rest k a ne, on_up l l (S k)) | inr b ↦ rw (le-ltb k c b) ]
+      (sits_no c (S' u) l u (rw now_is)) (λ k ne. grind (arith, nat_tests, rest k, on_up l l (S k)))
 
   leave_len_other : (l' : ℕ) → l ≢ l' → len c n S' l' ≡ len c n S l'
-  leave_len_other l' ne = len_same c n S S' l' (λ j a. at j a)
-    where
-      at : (j : ℕ) → j < c → on l' (S' j) ≡ on l' (S j)
-      at j a = elim (cases_eq j u) [ inl e ↦ rw (e, was, now_is, ne_eqb l l' ne) | inr d ↦ rw (rest j a d, on_up l l' (S j)) ]
+  leave_len_other l' ne = len_same c n S S' l' (λ j a. grind (arith, nat_tests, rest j, on_up l l' (S j)))
 
   leave_filled : Queues c n S → (l' k : ℕ) → k < len c n S' l' → (j : ℕ) × (j < c) × (S' j ≡ seated l' k)
   leave_filled q l' k a =
@@ -223,23 +187,11 @@ module _ (c n : ℕ) (c≤n : c ≤ n) (S S' : ℕ → Seat) (u l : ℕ) (u<c : 
 
   leave_inside : Queues c n S → (l' a j : ℕ) → j < c → S' j ≡ seated l' a → a < len c n S' l'
   leave_inside q l' a j b e =
-      elim (leave_from q j l' a b e).1 [
-        | inl h ↦ let x : len c n S l' ≡ suc (len c n S' l') = rw h.0 at leave_len in omega (arith, q.inside l' (suc a) j b h.1)
-        | inr h ↦ omega (arith, leave_len_other l' h.0, q.inside l' a j b h.1)
-      ]
+      grind (arith, leave_from q j l' a b e, leave_len, leave_len_other l', q.inside l' (suc a) j, q.inside l' a j)
 
   leave_apart : Queues c n S → (l' a i j : ℕ) → i < c → j < c → S' i ≡ seated l' a → S' j ≡ seated l' a → i ≡ j
   leave_apart q l' a i j hi hj ei ej =
-      elim (leave_from q i l' a hi ei).1 [
-        | inl f ↦ elim (leave_from q j l' a hj ej).1 [
-          | inl g ↦ q.apart l' (suc a) i j hi hj f.1 g.1
-          | inr g ↦ absurd (g.0 f.0)
-        ]
-        | inr f ↦ elim (leave_from q j l' a hj ej).1 [
-          | inl g ↦ absurd (f.0 g.0)
-          | inr g ↦ q.apart l' a i j hi hj f.1 g.1
-        ]
-      ]
+      grind (arith, leave_from q i l' a hi ei, leave_from q j l' a hj ej, q.apart l' (suc a) i j, q.apart l' a i j)
 
   pub leave : Queues c n S → Queues c n S'
   leave q = record { filled = leave_filled q; inside = leave_inside q; apart = leave_apart q }

@@ -1,6 +1,6 @@
 -- A hub is ready for its critical requests: what holds at every call, so that they are served in time. It speaks of owner, turn mark,
 -- policy, copies and requests, each by itself, and not of the memory.
-use Rattle.std.proofs.Common.{◌≡◌, ℕ, ◌+◌, ◌-◌, ◌<◌, ◌≤◌, max, true, ◌&&◌, ap, inl, inr, arith}
+use Rattle.std.proofs.Common.{◌≡◌, ℕ, ◌+◌, ◌-◌, ◌<◌, ◌≤◌, max, true, ◌&&◌, ap, inl, inr, arith, Option}
 use Rattle.std.proofs.lemmas.Bool.{cases_lt, lt-ltb, le-ltb}
 use Rattle.setup.specs.Bound.{bound}
 use Rattle.setup.specs.declared.bound.Caps.{Caps}
@@ -27,7 +27,7 @@ abbrev pub seats : State → ℕ → Seat
 seats s j = seat_of (s.requests j)
 
 -- what is in the way of the line's first critical requests, up to place a, is over in n slots
-abbrev pub Over : Sizes → (ℕ → ℕ → Held) → (ℕ → Request) → ℕ → ℕ → ℕ → Type 0
+abbrev pub Over : Sizes → (ℕ → ℕ → Option Held) → (ℕ → Request) → ℕ → ℕ → ℕ → Type 0
 Over z copies requests l a n = (i j b : ℕ) → i < z.critical → seat_of (requests i) ≡ seated l b → b ≤ a
     → in_way i (op_of (requests i)) j (copies l j) ≡ true → timer Critical (copies l j) ≤ n
 
@@ -58,11 +58,11 @@ module _ (z : Sizes) (caps : Caps) where
 
   -- what core i's request is due, where the coming slot belongs to the owner; d is 1 between calls, and 0 inside a slot, after its time has
   -- passed
-  abbrev pub DueIn : ℕ → (ℕ → ℕ → Held) → (ℕ → Request) → ℕ → ℕ → Request → Type 0
+  abbrev pub DueIn : ℕ → (ℕ → ℕ → Option Held) → (ℕ → Request) → ℕ → ℕ → Request → Type 0
   DueIn d copies requests owner i r =
       Due z.critical gap (bound z.critical caps) d (Over z copies requests) (λ j. seat_of (requests j)) owner i r
 
-  pub record Timely (d owner mark : ℕ) (timing : Timing) (copies : ℕ → ℕ → Held) (requests : ℕ → Request) : Type 0 where
+  pub record Timely (d owner mark : ℕ) (timing : Timing) (copies : ℕ → ℕ → Option Held) (requests : ℕ → Request) : Type 0 where
     pub in_turn : InTurn z owner mark
     pub timed : Timed caps timing
     pub capped : (l j : ℕ) → timer Critical (copies l j) ≤ longest_hold - 1 + d

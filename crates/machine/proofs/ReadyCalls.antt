@@ -6,18 +6,15 @@ use Rattle.setup.specs.declared.refusal.Refusal.{Refusal}
 use Rattle.policy.specs.Timing.{Lawful}
 use Rattle.policy.specs.declared.class.Class.{Class}
 use Rattle.policy.specs.declared.class.Class.TheVariants.{Critical, NonCritical}
-use Rattle.policy.specs.declared.holds.Against.{Against}
 use Rattle.machine.specs.declared.call.Call.{Call}
 use Rattle.machine.specs.declared.call.Call.TheVariants.{Ask, Slot, Settle, WordOf, StateOf, BoundOf}
 use Rattle.machine.specs.declared.held.Held.{Held}
-use Rattle.machine.specs.declared.held.Held.TheVariants.{Nothing, Copy}
 use Rattle.machine.specs.declared.op.Op.{Op}
 use Rattle.machine.specs.declared.op.Op.TheVariants.{Read, Write}
-use Rattle.machine.specs.declared.op.Role.TheVariants.{Reader, Writer}
 use Rattle.machine.specs.declared.request.Request.{Request}
 use Rattle.machine.specs.declared.request.Request.TheVariants.{Free, Asked, Ordered}
 use Rattle.machine.specs.declared.sizes.Sizes.{Sizes}
-use Rattle.machine.specs.Asking.{unless, ask_refusal, accepted, asking}
+use Rattle.machine.specs.Asking.{unless, ask_refusal, write_hit, accepted, asking}
 use Rattle.machine.specs.Granting.{in_way}
 use Rattle.machine.specs.History.{Start, sizes, longest_wait, History, From, begun, called}
 use Rattle.machine.specs.Machine.{step}
@@ -26,7 +23,7 @@ use Rattle.machine.specs.Places.{put}
 use Rattle.machine.specs.Questions.{telling_word, telling_state}
 use Rattle.machine.specs.Settling.{settling}
 use Rattle.machine.specs.State.{State}
-use Rattle.machine.proofs.Asks.{ask_accepted, unless_same}
+use Rattle.machine.proofs.Asks.{ask_accepted, accepted_all, unless_same}
 use Rattle.machine.proofs.Counting.{never, put_all}
 use Rattle.machine.proofs.Due.{Due, due_map}
 use Rattle.machine.proofs.Histories.{limits_from, lawful_from}
@@ -37,21 +34,24 @@ use Rattle.machine.proofs.ReadySlot.{ready_slot}
 use Rattle.machine.proofs.ReadySteps.{ready_asked}
 
 -- A write hit touches no timer, and the copy stays in the way of the same requests.
-module _ (s : State) (l i new old : ℕ) (t : Against) (was : s.copies l i ≡ Copy Writer old t) where
-  hit_all : (P : ℕ → ℕ → Held → Type 0) → P l i (Copy Writer new t) → ((m k : ℕ) → P m k (s.copies m k))
-      → (m k : ℕ) → P m k (put l (put i (Copy Writer new t) (s.copies l)) s.copies m k)
-  hit_all P here rest m =
-      put_all (λ n f. (k : ℕ) → P n k (f k)) l (put i (Copy Writer new t) (s.copies l)) s.copies
-      (λ k. put_all (P l) i (Copy Writer new t) (s.copies l) here (λ j _. rest l j) k) (λ n _ k. rest n k) m
+module _ (s : State) (l i w : ℕ) (old : Held) (was : s.copies l i ≡ Some old) where
+  abbrev new : Held
+  new = record old { word = w }
 
-  hit_timer : (c : Class) (m k : ℕ) → timer c (put l (put i (Copy Writer new t) (s.copies l)) s.copies m k) ≡ timer c (s.copies m k)
+  hit_all : (P : ℕ → ℕ → Option Held → Type 0) → P l i (Some new) → ((m k : ℕ) → P m k (s.copies m k))
+      → (m k : ℕ) → P m k (put l (put i (Some new) (s.copies l)) s.copies m k)
+  hit_all P here rest m =
+      put_all (λ n f. (k : ℕ) → P n k (f k)) l (put i (Some new) (s.copies l)) s.copies
+      (λ k. put_all (P l) i (Some new) (s.copies l) here (λ j _. rest l j) k) (λ n _ k. rest n k) m
+
+  hit_timer : (c : Class) (m k : ℕ) → timer c (put l (put i (Some new) (s.copies l)) s.copies m k) ≡ timer c (s.copies m k)
   hit_timer c = hit_all (λ m k x. timer c x ≡ timer c (s.copies m k)) (sym (ap (timer c) was)) (λ m k. refl)
 
   hit_way : (j : ℕ) (o : Op) (m k : ℕ)
-      → in_way j o k (put l (put i (Copy Writer new t) (s.copies l)) s.copies m k) ≡ in_way j o k (s.copies m k)
+      → in_way j o k (put l (put i (Some new) (s.copies l)) s.copies m k) ≡ in_way j o k (s.copies m k)
   hit_way j o = hit_all (λ m k x. in_way j o k x ≡ in_way j o k (s.copies m k)) (both o ∙ sym (ap (in_way j o i) was)) (λ m k. refl)
     where
-      both : (o : Op) → in_way j o i (Copy Writer new t) ≡ in_way j o i (Copy Writer old t)
+      both : (o : Op) → in_way j o i (Some new) ≡ in_way j o i (Some old)
       both Read = refl
       both (Write v) = refl
 
@@ -65,9 +65,9 @@ module _ (z : Sizes) (caps : Caps) (fit : Fit z caps) where
   abbrev B : ℕ
   B = bound z.critical caps
 
-  ready_hit : (s : State) (i l new old : ℕ) (t : Against) → s.copies l i ≡ Copy Writer old t → Ready z caps 1 s
-      → Ready z caps 1 (accepted i l (Write new) (Copy Writer old t) s).state
-  ready_hit s i l new old t was r =
+  ready_hit : (s : State) (i l w : ℕ) (old : Held) → s.copies l i ≡ Some old → Ready z caps 1 s
+      → Ready z caps 1 (write_hit i l (record old { word = w }) s).state
+  ready_hit s i l w old was r =
       record {
         in_turn = r.in_turn;
         timed = r.timed;
@@ -78,22 +78,22 @@ module _ (z : Sizes) (caps : Caps) (fit : Fit z caps) where
       }
     where
       s' : State
-      s' = (accepted i l (Write new) (Copy Writer old t) s).state
+      s' = (write_hit i l (record old { word = w }) s).state
 
       same : (m k : ℕ) → timers s' m k ≡ timers s m k
-      same = hit_timer s l i new old t was Critical
+      same = hit_timer s l i w old was Critical
 
       still : (m a n : ℕ) → OverIn z s m a n → OverIn z s' m a n
       still m a n over j k b hj seat b≤a way =
-          omega (arith, same m k, over j k b hj seat b≤a (sym (hit_way s l i new old t was j (op_of (s.requests j)) m k) ∙ way))
+          omega (arith, same m k, over j k b hj seat b≤a (sym (hit_way s l i w old was j (op_of (s.requests j)) m k) ∙ way))
 
-  ready_accepted : (s : State) (i l : ℕ) (o : Op) (x : Held) → s.copies l i ≡ x → is_waiting (s.requests i) ≡ false → Ready z caps 1 s
+  ready_accepted : (s : State) (i l : ℕ) (o : Op) (x : Option Held) → s.copies l i ≡ x → is_waiting (s.requests i) ≡ false → Ready z caps 1 s
       → Ready z caps 1 (accepted i l o x s).state
-  ready_accepted s i l Read Nothing was free r = ready_asked z caps fit s i l Read free r
-  ready_accepted s i l Read (Copy k w t) was free r = r
-  ready_accepted s i l (Write w) Nothing was free r = ready_asked z caps fit s i l (Write w) free r
-  ready_accepted s i l (Write w) (Copy Reader v t) was free r = ready_asked z caps fit s i l (Write w) free r
-  ready_accepted s i l (Write w) (Copy Writer v t) was free r = ready_hit s i l w v t was r
+  ready_accepted s i l o x was free r =
+      accepted_all i l s (λ o x out. s.copies l i ≡ x → Ready z caps 1 out.state)
+      (λ o _. ready_asked z caps fit s i l o free r) (λ copy _. r)
+      (λ w copy _. ready_asked z caps fit s i l (Write w) free r) (λ w copy writers was. ready_hit s i l w copy was r)
+      o x was
 
   ready_ask : (s : State) (i l : ℕ) (o : Op) → Ready z caps 1 s → Ready z caps 1 (asking z i l o s).state
   unfolding asking

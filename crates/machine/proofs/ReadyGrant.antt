@@ -1,5 +1,5 @@
 -- A grant keeps a hub ready.
-use Rattle.std.proofs.Common.{◌≡◌, ℕ, suc, ◌+◌, ◌<◌, ◌≤◌, max, true, false, ◌≢◌, ◌⊎◌, sym, refl, ap, ◌∙◌, inl, inr, arith}
+use Rattle.std.proofs.Common.{◌≡◌, ℕ, suc, ◌+◌, ◌<◌, ◌≤◌, max, true, false, ◌≢◌, ◌⊎◌, sym, refl, ap, ◌∙◌, inl, inr, arith, Some}
 use Rattle.std.proofs.lemmas.Bool.{cases_eq}
 use Rattle.setup.specs.Bound.{bound}
 use Rattle.setup.specs.declared.bound.Caps.{Caps}
@@ -65,7 +65,7 @@ module _ (z : Sizes) (caps : Caps) (fit : Fit z caps) where
         | inr ne ↦ omega (arith, ap (timer Critical) (grant_there z s u l j ne), r.capped l j)
       ]
 
-  new_left : (s : State) (u : ℕ) → timer Critical (new_copy z s u) ≡ s.timing.hold 0 u (class_of z u) (the_line z s u) Critical
+  new_left : (s : State) (u : ℕ) → timer Critical (Some (new_copy z s u)) ≡ s.timing.hold 0 u (class_of z u) (the_line z s u) Critical
   unfolding loaded
   new_left s u = refl
 
@@ -107,7 +107,7 @@ module _ (z : Sizes) (caps : Caps) (fit : Fit z caps) where
       same_op : (i : ℕ) → i < z.critical → i ≢ u → op_of ((grant z s u).requests i) ≡ op_of (s.requests i)
       same_op i a ne = ap op_of (rest i a ne) ∙ raised_op l (s.requests i)
 
-      loaded_is : timer Critical (new_copy z s u) ≡ s.timing.hold 0 u (class_of z u) l Critical
+      loaded_is : timer Critical (Some (new_copy z s u)) ≡ s.timing.hold 0 u (class_of z u) l Critical
       loaded_is = new_left s u
 
       here : (a k m : ℕ) → OverIn z s l (suc a) k → k ≤ m → caps.critical ≤ m → OverIn z s' l a m

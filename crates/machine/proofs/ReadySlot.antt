@@ -1,5 +1,5 @@
 -- A whole slot keeps a hub ready.
-use Rattle.std.proofs.Common.{◌≡◌, ℕ, ◌+◌, ◌<◌, ◌≤◌, Bool, true, false, cond, eqb, Some, None, Option, sym, refl, ap, ◌∙◌, inl, inr, arith}
+use Rattle.std.proofs.Common.{◌≡◌, ℕ, ◌+◌, ◌<◌, ◌≤◌, Bool, true, false, Some, None, Option, sym, refl, ap, ◌∙◌, inl, inr, arith}
 use Rattle.std.proofs.lemmas.Bool.{eq-eqb, eqb-true, and_parts}
 use Rattle.setup.specs.declared.bound.Caps.{Caps}
 use Rattle.policy.specs.declared.class.Class.TheVariants.{Critical, NonCritical}
@@ -7,7 +7,7 @@ use Rattle.machine.specs.declared.sizes.Sizes.{Sizes}
 use Rattle.machine.specs.Arbitration.{user_of, move_mark}
 use Rattle.machine.specs.Granting.{in_way, lets_pass, is_first, has_priority, is_granted}
 use Rattle.machine.specs.Order.{ordered_behind, queue_length, order}
-use Rattle.machine.specs.Parts.{timer, is_waiting, line_of, op_of}
+use Rattle.machine.specs.Parts.{is_waiting, line_of, op_of}
 use Rattle.machine.specs.Places.{all_below}
 use Rattle.machine.specs.Slot.{tried, try_user, used_by, slotting}
 use Rattle.machine.specs.State.{State, class_of}
@@ -46,13 +46,8 @@ module _ (z : Sizes) (caps : Caps) (fit : Fit z caps) where
         class_critical z u h,
       )
     where
-      go : (k : ℕ) (b : Bool) → in_way u (op_of (s.requests u)) k (s.copies (the_line z s u) k) ≡ b
-          → cond b (eqb (timer Critical (s.copies (the_line z s u) k)) 0) true ≡ true
-      go k true e = eq-eqb (timer Critical (s.copies (the_line z s u) k)) 0 (t k e)
-      go k false e = refl
-
       at : (k : ℕ) → lets_pass u (op_of (s.requests u)) (class_of z u) k (s.copies (the_line z s u) k) ≡ true
-      at k = rw (class_critical z u h) (go k (in_way u (op_of (s.requests u)) k (s.copies (the_line z s u) k)) refl)
+      at k = rw (class_critical z u h) (grind (arith, eq-eqb, t k))
 
   ready_try : (s : State) (u : ℕ) → u ≡ s.owner → (seats s u ≡ unseated → ⊥) → Ready z caps 0 s → Ready z caps 1 (try_user z s u).state
   unfolding try_user

@@ -183,15 +183,7 @@ module _ (z : Sizes) (caps : Caps) (fit : Fit z caps) where
   order_ordered s u l o a w e =
       let v : ordered_behind (queue_length z s (class_of z u) (line_of (s.requests u))) (s.requests u) ≡ s.requests u = rw e in
       ap (λ x. with_request u x s) v
-      ∙ (λ i. record {
-        copies = s.copies;
-        requests = put_id u s.requests i;
-        owner = s.owner;
-        mark = s.mark;
-        words =
-            s.words;
-        timing = s.timing;
-      })
+      ∙ (λ i. record s { requests = put_id u s.requests i })
 
   order_asked : (s : State) (u l : ℕ) (o : Op) (w : ℕ) → u < z.critical → s.requests u ≡ Asked l o w
       → order z s u ≡ with_request u (Ordered l o (queue_length z s Critical l) w) s

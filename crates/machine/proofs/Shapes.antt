@@ -1,8 +1,8 @@
 -- The state without timers, which the steps of a slot leave as it is until a grant.
-use Rattle.std.proofs.Common.{◌≡◌, ℕ, true, length, get_or, sym, refl, ap, ◌∙◌}
+use Rattle.std.proofs.Common.{◌≡◌, ℕ, true, length, get_or, sym, refl, ap, ◌∙◌, Some, None, Option, arith}
 use Rattle.policy.specs.declared.class.Class.{Class}
 use Rattle.machine.specs.declared.held.Held.{Held}
-use Rattle.machine.specs.declared.held.Held.TheVariants.{Nothing, Copy}
+use Rattle.machine.specs.declared.op.Role.{Role}
 use Rattle.machine.specs.declared.op.Role.TheVariants.{Reader, Writer}
 use Rattle.machine.specs.declared.request.Request.{Request}
 use Rattle.machine.specs.declared.request.Request.TheVariants.{Free, Asked, Ordered}
@@ -16,10 +16,13 @@ use Rattle.machine.proofs.Coherence.{Shape, nothing, reads, writes, line_same, C
 use Rattle.machine.proofs.Counting.{put_all}
 use Rattle.machine.proofs.Wishes.{Wish, no_wish, wish}
 
-abbrev pub shape : Held → Shape ℕ
-shape Nothing = nothing
-shape (Copy Reader w t) = reads w
-shape (Copy Writer w t) = writes w
+abbrev pub shape_of : Role → ℕ → Shape ℕ
+shape_of Reader w = reads w
+shape_of Writer w = writes w
+
+abbrev pub shape : Option Held → Shape ℕ
+shape None = nothing
+shape (Some copy) = shape_of copy.role copy.word
 
 abbrev pub wish_of : Request → Wish
 wish_of Free = no_wish
@@ -35,40 +38,26 @@ wishes s i = wish_of (s.requests i)
 abbrev pub Good : Sizes → State → (ℕ → ℕ) → Type 0
 Good z s last = Coherent z.cores z.lines (length s.words) (shapes s) (λ l. get_or s.words l 0) (wishes s) last
 
-pub shape_writer : (x : Held) → is_writers x ≡ true → shape x ≡ writes (word_in x)
-shape_writer Nothing e = cc
-shape_writer (Copy Reader w t) e = cc
-shape_writer (Copy Writer w t) e = refl
+pub shape_writer : (x : Option Held) → is_writers x ≡ true → shape x ≡ writes (word_in x)
+shape_writer x e = grind arith
 
-pub writer_shape : (x : Held) (w : ℕ) → shape x ≡ writes w → is_writers x ≡ true
-writer_shape Nothing w e = cc
-writer_shape (Copy Reader v t) w e = cc
-writer_shape (Copy Writer v t) w e = refl
+pub writer_shape : (x : Option Held) (w : ℕ) → shape x ≡ writes w → is_writers x ≡ true
+writer_shape x w e = grind arith
 
-tick_shape : (x : Held) → shape (tick_held x) ≡ shape x
-tick_shape Nothing = refl
-tick_shape (Copy Reader w t) = refl
-tick_shape (Copy Writer w t) = refl
+tick_shape : (x : Option Held) → shape (tick_held x) ≡ shape x
+tick_shape x = grind arith
 
 tick_wish : (r : Request) → wish_of (tick_request r) ≡ wish_of r
-tick_wish Free = refl
-tick_wish (Asked l o w) = refl
-tick_wish (Ordered l o a w) = refl
+tick_wish r = grind arith
 
 order_wish : (n : ℕ) (r : Request) → wish_of (ordered_behind n r) ≡ wish_of r
-order_wish n Free = refl
-order_wish n (Asked l o w) = refl
-order_wish n (Ordered l o a w) = refl
+order_wish n r = grind arith
 
 pub up_wish : (z : Sizes) (c : Class) (l k : ℕ) (r : Request) → wish_of (step_up z c l k r) ≡ wish_of r
-up_wish z c l k Free = refl
-up_wish z c l k (Asked l' o w) = refl
-up_wish z c l k (Ordered l' o a w) = refl
+up_wish z c l k r = grind arith
 
 pub waiting_wish : (r : Request) → is_waiting r ≡ true → wish_of r ≡ wish (line_of r) (op_of r)
-waiting_wish Free e = cc
-waiting_wish (Asked l o w) e = refl
-waiting_wish (Ordered l o a w) e = refl
+waiting_wish r e = grind arith
 
 -- the same, place by place
 pub good_same : (z : Sizes) (s s' : State) (last last' : ℕ → ℕ) → ((l i : ℕ) → shapes s' l i ≡ shapes s l i) → s'.words ≡ s.words

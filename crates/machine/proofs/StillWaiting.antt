@@ -1,19 +1,15 @@
 -- A request that waits goes on waiting and counts the slots, until a done slot of its core.
-use Rattle.std.proofs.Common.{◌≡◌, ℕ, suc, ◌+◌, min, true, false, cond, ◌≢◌, ◌⊎◌, [], ◌∷◌, ◌++◌, Some, None, Option, sym, refl, ap, subst, inl, inr, arith}
+use Rattle.std.proofs.Common.{◌≡◌, ℕ, suc, ◌+◌, min, true, false, cond, ◌≢◌, ◌⊎◌, [], ◌∷◌, ◌++◌, Some, None, Option, sym, refl, subst, inl, inr, arith}
 use Rattle.std.proofs.lemmas.Bool.{eq-eqb, cases_eq}
 use Rattle.setup.specs.declared.refusal.Refusal.{Refusal}
 use Rattle.policy.specs.declared.class.Class.{Class}
 use Rattle.machine.specs.declared.call.Call.{Call}
 use Rattle.machine.specs.declared.call.Call.TheVariants.{Ask, Slot, Settle, WordOf, StateOf, BoundOf}
 use Rattle.machine.specs.declared.held.Held.{Held}
-use Rattle.machine.specs.declared.held.Held.TheVariants.{Nothing, Copy}
 use Rattle.machine.specs.declared.op.Op.{Op}
-use Rattle.machine.specs.declared.op.Op.TheVariants.{Read, Write}
-use Rattle.machine.specs.declared.op.Role.TheVariants.{Reader, Writer}
-use Rattle.machine.specs.declared.reply.AskAnswer.TheVariants.{Waits}
-use Rattle.machine.specs.declared.reply.Reply.TheVariants.{ToAsk}
+use Rattle.machine.specs.declared.op.Op.TheVariants.{Write}
 use Rattle.machine.specs.declared.request.Request.{Request}
-use Rattle.machine.specs.declared.request.Request.TheVariants.{Free, Asked, Ordered}
+use Rattle.machine.specs.declared.request.Request.TheVariants.{Asked}
 use Rattle.machine.specs.declared.sizes.Sizes.{Sizes}
 use Rattle.machine.specs.Answering.{Served, before}
 use Rattle.machine.specs.Arbitration.{user_of, move_mark}
@@ -26,11 +22,12 @@ use Rattle.machine.specs.Order.{ordered_behind, queue_length, order}
 use Rattle.machine.specs.Parts.{is_waiting, line_of, wait_of}
 use Rattle.machine.specs.Places.{put}
 use Rattle.machine.specs.Questions.{telling_word, telling_state}
+use Rattle.machine.specs.Replies.{waits}
 use Rattle.machine.specs.Settling.{settling}
 use Rattle.machine.specs.Slot.{end_slot, tried, try_user, used_by, slotting}
 use Rattle.machine.specs.State.{State, class_of}
 use Rattle.machine.specs.Time.{tick_wait, tick_request, tick}
-use Rattle.machine.proofs.Asks.{ask_accepted, unless_same}
+use Rattle.machine.proofs.Asks.{ask_accepted, accepted_all, unless_same}
 use Rattle.machine.proofs.Counting.{never, put_same, put_other, put_all}
 use Rattle.machine.proofs.Effects.{effect, is_served, served_now}
 use Rattle.machine.proofs.Grants.{grant_others}
@@ -41,19 +38,13 @@ pub record Still (r : Request) (w : ℕ) : Type 0 where
   pub count : wait_of r ≡ w
 
 still_tick : (r : Request) (w : ℕ) → Still r w → Still (tick_request r) (tick_wait w)
-still_tick Free w x = absurd (never (cc x.waits))
-still_tick (Asked l o n) w x = record { waits = refl; count = ap tick_wait x.count }
-still_tick (Ordered l o a n) w x = record { waits = refl; count = ap tick_wait x.count }
+still_tick r w x = grind arith
 
 still_ordered : (n : ℕ) (r : Request) (w : ℕ) → Still r w → Still (ordered_behind n r) w
-still_ordered n Free w x = x
-still_ordered n (Asked l o k) w x = record { waits = refl; count = x.count }
-still_ordered n (Ordered l o a k) w x = x
+still_ordered n r w x = grind arith
 
 still_up : (z : Sizes) (c : Class) (l k : ℕ) (r : Request) (w : ℕ) → Still r w → Still (step_up z c l k r) w
-still_up z c l k Free w x = x
-still_up z c l k (Asked l' o n) w x = x
-still_up z c l k (Ordered l' o a n) w x = record { waits = refl; count = x.count }
+still_up z c l k r w x = grind arith
 
 module _ (z : Sizes) (i : ℕ) where
   still_order : (s : State) (u w : ℕ) → Still (s.requests i) w → Still ((order z s u).requests i) w
@@ -89,22 +80,16 @@ module _ (z : Sizes) (i : ℕ) where
         | Some u ↦ still_try (order z (move_mark z (tick s) u) u) u (tick_wait w) (still_order (move_mark z (tick s) u) u (tick_wait w) y)
       ]
 
-  still_accepted : (s : State) (j l w : ℕ) (o : Op) (x : Held) → is_waiting (s.requests j) ≡ false → Still (s.requests i) w
+  still_accepted : (s : State) (j l w : ℕ) (o : Op) (x : Option Held) → is_waiting (s.requests j) ≡ false → Still (s.requests i) w
       → Still ((accepted j l o x s).state.requests i) w
-  still_accepted s j l w o x free y = at o x
+  still_accepted s j l w o x free y =
+      accepted_all j l s (λ o x out. Still (out.state.requests i) w) new (λ copy. y) (λ v copy. new (Write v)) (λ v copy _. y) o x
     where
       ne : i ≢ j
       ne e = let both : is_waiting (s.requests j) ≡ true = rw e at y.waits in never cc
 
       new : (o : Op) → Still (put j (Asked l o 0) s.requests i) w
       new o = rw (put_other j i (Asked l o 0) s.requests ne) y
-
-      at : (o : Op) (x : Held) → Still ((accepted j l o x s).state.requests i) w
-      at Read Nothing = new Read
-      at Read (Copy k v t) = y
-      at (Write v) Nothing = new (Write v)
-      at (Write v) (Copy Reader u t) = new (Write v)
-      at (Write v) (Copy Writer u t) = y
 
   still_ask : (s : State) (j l w : ℕ) (o : Op) → Still (s.requests i) w → Still ((asking z j l o s).state.requests i) w
   unfolding asking
@@ -131,26 +116,25 @@ module _ (z : Sizes) (i : ℕ) where
   still_step s BoundOf n x = inr x
 
 -- an ask that is told to wait leaves a request that has waited for 0 slots
-still_new : (z : Sizes) (s : State) (i l : ℕ) (o : Op) → ToAsk Waits ≡ (asking z i l o s).reply
+still_new : (z : Sizes) (s : State) (i l : ℕ) (o : Op) → waits ≡ (asking z i l o s).reply
     → Still ((asking z i l o s).state.requests i) 0
 unfolding asking
-still_new z s i l o e = go (ask_refusal z i l s) o (s.copies l i) e
+still_new z s i l o e = go (ask_refusal z i l s) e
   where
     new : (o : Op) → Still (put i (Asked l o 0) s.requests i) 0
     new o = rw (put_same i (Asked l o 0) s.requests) (record { waits = refl; count = refl })
 
-    go : (v : Option Refusal) (o : Op) (x : Held) → ToAsk Waits ≡ (unless v (accepted i l o x s) s).reply
-        → Still ((unless v (accepted i l o x s) s).state.requests i) 0
-    go None Read Nothing e = new Read
-    go None Read (Copy k w t) e = absurd (never cc)
-    go None (Write v) Nothing e = new (Write v)
-    go None (Write v) (Copy Reader w t) e = new (Write v)
-    go None (Write v) (Copy Writer w t) e = absurd (never cc)
-    go (Some refusal) o x e = absurd (never cc)
+    go : (v : Option Refusal) → waits ≡ (unless v (accepted i l o (s.copies l i) s) s).reply
+        → Still ((unless v (accepted i l o (s.copies l i) s) s).state.requests i) 0
+    go None e =
+        accepted_all i l s (λ o x out. waits ≡ out.reply → Still (out.state.requests i) 0)
+        (λ o e. new o) (λ copy e. absurd (never cc)) (λ v copy e. new (Write v)) (λ v copy _ e. absurd (never cc))
+        o (s.copies l i) e
+    go (Some refusal) e = absurd (never cc)
 
 -- since such an ask the core was served, or its request waits with the number of slots as its wait count
 pub still_from : (b : Start) (i l : ℕ) (o : Op) (since before_it : History) (s : State)
-    → From b (since ++ (event (Ask i l o) (ToAsk Waits) ∷ before_it)) s
+    → From b (since ++ (event (Ask i l o) waits ∷ before_it)) s
     → Served i since ⊎ Still (s.requests i) (min (slots since) 4294967295)
 still_from b i l o [] before_it s f =
     let u = earlier b f in

@@ -3,7 +3,7 @@ use Rattle.std.proofs.Common.{ℕ, cond, eqb, [], ◌∷◌, get_or}
 use Rattle.machine.specs.declared.op.Op.{Op}
 use Rattle.machine.specs.declared.op.Op.TheVariants.{Read, Write}
 use Rattle.machine.specs.History.{Start, Event, History}
-use Rattle.machine.proofs.Effects.{Effect, no_effect, waits, hits, serves, effect_of}
+use Rattle.machine.proofs.Effects.{Effect, no_effect, begins, hits, serves, effect_of}
 
 pub data Wish : Type 0 where
   no_wish : Wish
@@ -11,7 +11,7 @@ pub data Wish : Type 0 where
 
 abbrev pub next_wish : ℕ → Effect → Wish → Wish
 next_wish i no_effect old = old
-next_wish i (waits j l o) old = cond (eqb i j) (wish l o) old
+next_wish i (begins j l o) old = cond (eqb i j) (wish l o) old
 next_wish i (hits j l o w) old = old
 next_wish i (serves j w) old = cond (eqb i j) no_wish old
 
@@ -30,7 +30,7 @@ granted_wish i (wish l o) w = answer i l o w
 
 abbrev pub answer_by : (ℕ → Wish) → Effect → Answer
 answer_by ws no_effect = no_answer
-answer_by ws (waits i l o) = no_answer
+answer_by ws (begins i l o) = no_answer
 answer_by ws (hits i l o w) = answer i l o w
 answer_by ws (serves i w) = granted_wish i (ws i) w
 

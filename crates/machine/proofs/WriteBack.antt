@@ -1,32 +1,24 @@
 -- What storing the writers of a line does to the words.
-use Rattle.std.proofs.Common.{◌≡◌, ℕ, zero, suc, ◌<◌, Bool, true, false, cond, ◌&&◌, ◌≢◌, ◌⊎◌, List, length, get_or, set, refl, ◌∙◌, inl, inr, arith, length-set, get_or-set_other, get_or-set_same}
+use Rattle.std.proofs.Common.{◌≡◌, ℕ, zero, suc, ◌<◌, Bool, true, false, cond, ◌&&◌, ◌≢◌, ◌⊎◌, List, length, get_or, set, refl, inl, inr, arith, length-set, get_or-set_other, get_or-set_same, Option}
 use Rattle.std.proofs.lemmas.Bool.{cases_eq, and_parts, and_from}
 use Rattle.machine.specs.declared.held.Held.{Held}
 use Rattle.machine.specs.Grant.{write_back}
 use Rattle.machine.specs.Parts.{is_writers, word_in}
 use Rattle.machine.proofs.Counting.{never}
 
-module _ (way : ℕ → Held → Bool) (cs : ℕ → Held) (l : ℕ) where
+module _ (way : ℕ → Option Held → Bool) (cs : ℕ → Option Held) (l : ℕ) where
   takes : ℕ → Bool
   takes k = way k (cs k) && is_writers (cs k)
 
   pub write_back_length : (n : ℕ) (m : List ℕ) → length (write_back way cs l n m) ≡ length m
   unfolding takes
   write_back_length zero m = refl
-  write_back_length (suc n) m =
-      elim (takes n) as (λ t. length (cond t (set (write_back way cs l n m) l (word_in (cs n))) (write_back way cs l n m)) ≡ length m) [
-        | true ↦ length-set (write_back way cs l n m) l (word_in (cs n)) ∙ write_back_length n m
-        | false ↦ write_back_length n m
-      ]
+  write_back_length (suc n) m = grind (arith, length-set, write_back_length n m)
 
   pub write_back_other : (n : ℕ) (m : List ℕ) (l' : ℕ) → l' ≢ l → get_or (write_back way cs l n m) l' 0 ≡ get_or m l' 0
   unfolding takes
   write_back_other zero m l' ne = refl
-  write_back_other (suc n) m l' ne =
-      elim (takes n) as (λ t. get_or (cond t (set (write_back way cs l n m) l (word_in (cs n))) (write_back way cs l n m)) l' 0 ≡ get_or m l' 0) [
-        | true ↦ get_or-set_other (write_back way cs l n m) l l' (word_in (cs n)) 0 ne ∙ write_back_other n m l' ne
-        | false ↦ write_back_other n m l' ne
-      ]
+  write_back_other (suc n) m l' ne = grind (arith, get_or-set_other, write_back_other n m l' ne)
 
   -- either a writer's word was stored, or there was none
   pub write_back_same : (n : ℕ) (m : List ℕ) → l < length m

@@ -4,27 +4,25 @@ use Rattle.machine.specs.declared.call.Call.TheVariants.{Ask, Slot}
 use Rattle.machine.specs.declared.op.Op.{Op}
 use Rattle.machine.specs.declared.op.Op.TheVariants.{Write}
 use Rattle.machine.specs.declared.op.Role.{Role}
-use Rattle.machine.specs.declared.reply.AskAnswer.TheVariants.{Hit, Waits}
-use Rattle.machine.specs.declared.reply.Reply.TheVariants.{ToAsk, ToSlot}
-use Rattle.machine.specs.declared.reply.SlotAnswer.TheVariants.{Done}
 use Rattle.machine.specs.History.{Start, Event, event, History}
+use Rattle.machine.specs.Replies.{hit, waits, done}
 
 -- the history has a done slot whose user is the core
 pub data Served (core : ℕ) : History → Type 0 where
-  now : {h : History} {owner line word wait : ℕ} {role : Role} → Served core (event Slot (ToSlot (Done owner core line role word wait)) ∷ h)
+  now : {h : History} {owner line word wait : ℕ} {role : Role} → Served core (event Slot (done owner core line role word wait) ∷ h)
   before : {e : Event} {h : History} → Served core h → Served core (e ∷ h)
 
 -- the core's ask was told to wait, and no done slot of the core has come since
 pub record Unanswered (core line : ℕ) (op : Op) (since h : History) : Type 0 where
   pub earlier : History
-  pub asked : h ≡ since ++ (event (Ask core line op) (ToAsk Waits) ∷ earlier)
+  pub asked : h ≡ since ++ (event (Ask core line op) waits ∷ earlier)
   pub unserved : Served core since → ⊥
 
 -- the event, coming after h, answers a request with this word: as the hit of its ask, or as the first done slot of the core since its ask
 pub data Answers (core line : ℕ) (op : Op) (word : ℕ) : Event → History → Type 0 where
-  at_once : {h : History} → Answers core line op word (event (Ask core line op) (ToAsk (Hit word))) h
+  at_once : {h : History} → Answers core line op word (event (Ask core line op) (hit word)) h
   in_slot : {since h : History} {owner l wait : ℕ} {role : Role} → Unanswered core line op since h
-      → Answers core line op word (event Slot (ToSlot (Done owner core l role word wait))) h
+      → Answers core line op word (event Slot (done owner core l role word wait)) h
 
 -- the word that the line's last finished write named, or the line's starting word; a write is finished by its answer
 pub data Latest (start : Start) (line : ℕ) : History → ℕ → Type 0 where

@@ -1,5 +1,5 @@
 -- Steps 2 and 3 of a slot: who uses it.
-use Rattle.std.specs.Prelude.{ℕ, suc, ◌-◌, Bool, cond, Some, Option, nat_lt}
+use Rattle.std.specs.Prelude.{ℕ, suc, ◌-◌, Bool, if◌then◌else◌, Some, Option, nat_lt}
 use Rattle.std.specs.Option.{option_or}
 use Rattle.machine.specs.declared.sizes.Sizes.{Sizes}
 use Rattle.machine.specs.Parts.{is_waiting}
@@ -15,19 +15,12 @@ module _ (z : Sizes) where
 
   -- the owner if it waits, else the first in turn, else nobody
   unfoldable pub user_of : State → Option ℕ
-  user_of s = cond (is_waiting (s.requests s.owner)) (Some s.owner) (first_in_turn s)
+  user_of s = if is_waiting (s.requests s.owner) then Some s.owner else first_in_turn s
 
   -- the non-critical core after a user, round
   abbrev pub mark_after : ℕ → ℕ
-  mark_after user = cond (nat_lt (suc user) z.cores) (suc user) z.critical
+  mark_after user = if nat_lt (suc user) z.cores then suc user else z.critical
 
   -- a critical user leaves the mark where it is
   unfoldable pub move_mark : State → ℕ → State
-  move_mark s user = record {
-    copies = s.copies;
-    requests = s.requests;
-    owner = s.owner;
-    mark = cond (nat_lt user z.critical) s.mark (mark_after user);
-    words = s.words;
-    timing = s.timing;
-  }
+  move_mark s user = record s { mark = if nat_lt user z.critical then s.mark else mark_after user }

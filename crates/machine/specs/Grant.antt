@@ -1,10 +1,9 @@
 -- Step 7 of a slot: the grant.
-use Rattle.std.specs.Prelude.{ℕ, zero, suc, ◌-◌, Bool, cond, ◌&&◌, List, ◌==◌, slice_index, slice_set}
+use Rattle.std.specs.Prelude.{ℕ, zero, suc, ◌-◌, Bool, if◌then◌else◌, ◌&&◌, List, Some, None, Option, ◌==◌, slice_index, slice_set}
 use Rattle.policy.specs.declared.class.Class.{Class}
 use Rattle.policy.specs.declared.class.Class.TheVariants.{Critical, NonCritical}
 use Rattle.policy.specs.declared.holds.Against.{Against}
 use Rattle.machine.specs.declared.held.Held.{Held}
-use Rattle.machine.specs.declared.held.Held.TheVariants.{Nothing, Copy}
 use Rattle.machine.specs.declared.op.Op.{Op}
 use Rattle.machine.specs.declared.op.Op.TheVariants.{Read, Write}
 use Rattle.machine.specs.declared.request.Request.{Request}
@@ -16,15 +15,15 @@ use Rattle.machine.specs.Places.{put}
 use Rattle.machine.specs.State.{State, class_of, is_of}
 
 -- the words once the writers' words on a line are stored, of those copies of the first n cores that pass
-abbrev pub write_back : (ℕ → Held → Bool) → (ℕ → Held) → ℕ → ℕ → List ℕ → List ℕ
+abbrev pub write_back : (ℕ → Option Held → Bool) → (ℕ → Option Held) → ℕ → ℕ → List ℕ → List ℕ
 write_back passes held line zero words = words
 write_back passes held line (suc n) words =
     let before : List ℕ = write_back passes held line n words in
-    cond (passes n (held n) && is_writers (held n)) (slice_set before line (word_in (held n))) before
+    if passes n (held n) && is_writers (held n) then slice_set before line (word_in (held n)) else before
 
 -- the copies that pass end
-abbrev pub ended : (ℕ → Held → Bool) → (ℕ → Held) → ℕ → Held
-ended passes held core = cond (passes core (held core)) Nothing (held core)
+abbrev pub ended : (ℕ → Option Held → Bool) → (ℕ → Option Held) → ℕ → Option Held
+ended passes held core = if passes core (held core) then None else held core
 
 -- the word of the new copy: what the memory has by then for a read, and for a write the word that was asked
 abbrev pub word_for : Op → ℕ → ℕ
@@ -36,7 +35,7 @@ module _ (z : Sizes) where
   abbrev pub step_up : Class → ℕ → ℕ → Request → Request
   step_up c l core Free = Free
   step_up c l core (Asked line op wait) = Asked line op wait
-  step_up c l core (Ordered line op ahead wait) = Ordered line op (cond (line == l && is_of z c core) (ahead - 1) ahead) wait
+  step_up c l core (Ordered line op ahead wait) = Ordered line op (if line == l && is_of z c core then ahead - 1 else ahead) wait
 
   -- the memory's words, with those of the writers in the way
   unfoldable pub words_after : State → ℕ → List ℕ
@@ -61,12 +60,9 @@ module _ (z : Sizes) where
   grant s user =
       let r : Request = s.requests user in
       let line : ℕ = line_of r in
-      let new : Held = Copy (role_of (op_of r)) (granted_word s user) (loaded s user line) in
-      record {
-        copies = put line (put user new (ended (in_way user (op_of r)) (s.copies line))) s.copies;
+      let new : Held = record { role = role_of (op_of r); word = granted_word s user; timers = loaded s user line } in
+      record s {
+        copies = put line (put user (Some new) (ended (in_way user (op_of r)) (s.copies line))) s.copies;
         requests = put user Free (λ core. step_up (class_of z user) line core (s.requests core));
-        owner = s.owner;
-        mark = s.mark;
         words = words_after s user;
-        timing = s.timing;
       }

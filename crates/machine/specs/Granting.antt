@@ -1,5 +1,5 @@
 -- Steps 5 and 6 of a slot: what is in the way of the user's request, and whether it is granted.
-use Rattle.std.specs.Prelude.{ℕ, Bool, true, false, cond, not, ◌&&◌, ◌==◌}
+use Rattle.std.specs.Prelude.{ℕ, Bool, true, false, if◌then◌else◌, not, ◌&&◌, Option, ◌==◌}
 use Rattle.policy.specs.declared.class.Class.{Class}
 use Rattle.policy.specs.declared.class.Class.TheVariants.{Critical, NonCritical}
 use Rattle.machine.specs.declared.held.Held.{Held}
@@ -14,13 +14,13 @@ use Rattle.machine.specs.Places.{all_below}
 use Rattle.machine.specs.State.{State, class_of}
 
 -- a read is barred by the writer's copy of another core; a write by any copy, that of its own core too
-abbrev pub in_way : ℕ → Op → ℕ → Held → Bool
+abbrev pub in_way : ℕ → Op → ℕ → Option Held → Bool
 in_way user Read core held = not (core == user) && is_writers held
 in_way user (Write w) core held = is_copy held
 
 -- a copy in the way must be out of its hold against the user's class
-abbrev pub lets_pass : ℕ → Op → Class → ℕ → Held → Bool
-lets_pass user op c core held = cond (in_way user op core held) (timer c held == 0) true
+abbrev pub lets_pass : ℕ → Op → Class → ℕ → Option Held → Bool
+lets_pass user op c core held = if in_way user op core held then timer c held == 0 else true
 
 -- nobody of its class is ahead
 abbrev pub is_first : Request → Bool

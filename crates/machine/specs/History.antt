@@ -1,16 +1,15 @@
 -- Histories: what was called and what was answered, the latest first.
-use Rattle.std.specs.Prelude.{◌≡◌, ℕ, suc, min, Bool, true, false, cond, List, [], ◌∷◌, length, Ok}
+use Rattle.std.specs.Prelude.{◌≡◌, ℕ, suc, min, Bool, true, false, if◌then◌else◌, List, [], ◌∷◌, length, None, Ok}
 use Rattle.setup.specs.Bound.{bound}
 use Rattle.setup.specs.Limits.{checking}
 use Rattle.setup.specs.declared.draft.Draft.{Draft}
 use Rattle.policy.specs.Timing.{Timing, Lawful}
 use Rattle.machine.specs.declared.call.Call.{Call}
 use Rattle.machine.specs.declared.call.Call.TheVariants.{Ask, Slot, Settle, WordOf, StateOf, BoundOf}
-use Rattle.machine.specs.declared.held.Held.TheVariants.{Nothing}
-use Rattle.machine.specs.declared.reply.Reply.{Reply}
 use Rattle.machine.specs.declared.request.Request.TheVariants.{Free}
 use Rattle.machine.specs.declared.sizes.Sizes.{Sizes}
 use Rattle.machine.specs.Machine.{step}
+use Rattle.machine.specs.Replies.{Reply}
 use Rattle.machine.specs.State.{State}
 
 -- What a hub is started on ------------------------------------------------------------------------
@@ -33,7 +32,7 @@ sizes start = record {
 -- nothing is held or asked for, and core 0 is the first owner
 abbrev pub fresh : Start → State
 fresh start = record {
-  copies = λ line core. Nothing;
+  copies = λ line core. None;
   requests = λ core. Free;
   owner = 0;
   mark = start.setup.critical;
@@ -75,4 +74,4 @@ is_slot BoundOf = false
 
 abbrev pub slots : History → ℕ
 slots [] = 0
-slots (e ∷ h) = cond (is_slot e.call) (suc (slots h)) (slots h)
+slots (e ∷ h) = if is_slot e.call then suc (slots h) else slots h

@@ -1,3 +1,5 @@
+pub mod CoreState
+pub mod Replies
 pub mod Places
 pub mod Parts
 pub mod State

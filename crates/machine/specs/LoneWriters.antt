@@ -1,22 +1,22 @@
 -- Law: writers are alone.
 use Rattle.std.specs.Prelude.{ℕ, ◌≢◌}
 use Rattle.machine.specs.declared.call.Call.TheVariants.{StateOf}
-use Rattle.machine.specs.declared.reply.Reply.{Reply}
-use Rattle.machine.specs.declared.reply.Reply.TheVariants.{Code}
+use Rattle.machine.specs.declared.core_state.CoreState.TheVariants.{S, M, Sti, Mti}
 use Rattle.machine.specs.History.{Start, History, From, sizes}
 use Rattle.machine.specs.Machine.{step}
+use Rattle.machine.specs.Replies.{Reply, in_state}
 use Rattle.machine.specs.State.{State}
 
--- the codes of a writer's copy are M and MTI
+-- the states of a writer's copy are M and MTI
 pub data Writers : Reply → Type 0 where
-  in_m : Writers (Code 2)
-  in_mti : Writers (Code 4)
+  in_m : Writers (in_state M)
+  in_mti : Writers (in_state Mti)
 
--- the codes of any copy: besides those S and STI
+-- the states of any copy: besides those S and STI
 pub data Copied : Reply → Type 0 where
   writers : {r : Reply} → Writers r → Copied r
-  in_s : Copied (Code 1)
-  in_sti : Copied (Code 3)
+  in_s : Copied (in_state S)
+  in_sti : Copied (in_state Sti)
 
 -- Where one core has a writer's copy of a line, no other core has a copy of it. `told` has the answers to all questions for a state, by core
 -- and line.

@@ -2,7 +2,6 @@
 use Rattle.std.specs.Prelude.{List, [], ◌∷◌}
 use Rattle.machine.specs.declared.call.Call.{Call}
 use Rattle.machine.specs.declared.call.Call.TheVariants.{Ask, Slot, Settle, WordOf, StateOf, BoundOf}
-use Rattle.machine.specs.declared.reply.Reply.{Reply}
 use Rattle.machine.specs.declared.sizes.Sizes.{Sizes}
 use Rattle.machine.specs.Arbitration.{first_in_turn, user_of, move_mark}
 use Rattle.machine.specs.Asking.{asking}
@@ -10,6 +9,7 @@ use Rattle.machine.specs.Grant.{words_after, granted_word, loaded, grant}
 use Rattle.machine.specs.Granting.{is_granted}
 use Rattle.machine.specs.Order.{queue_length, order}
 use Rattle.machine.specs.Questions.{telling_word, telling_state, telling_bound}
+use Rattle.machine.specs.Replies.{Reply}
 use Rattle.machine.specs.Settling.{settling}
 use Rattle.machine.specs.Slot.{end_slot, try_user, slotting}
 use Rattle.machine.specs.State.{State, Outcome}

@@ -1,5 +1,5 @@
 -- The parts of copies and requests.
-use Rattle.std.specs.Prelude.{ℕ, Bool, true, false, ◌==◌}
+use Rattle.std.specs.Prelude.{ℕ, Bool, true, false, Some, None, Option, is_some, ◌==◌}
 use Rattle.policy.specs.FourNumbers.{against}
 use Rattle.policy.specs.declared.class.Class.{Class}
 use Rattle.machine.specs.declared.op.Op.{Op}
@@ -7,7 +7,6 @@ use Rattle.machine.specs.declared.op.Op.TheVariants.{Read, Write}
 use Rattle.machine.specs.declared.op.Role.{Role}
 use Rattle.machine.specs.declared.op.Role.TheVariants.{Reader, Writer}
 use Rattle.machine.specs.declared.held.Held.{Held}
-use Rattle.machine.specs.declared.held.Held.TheVariants.{Nothing, Copy}
 use Rattle.machine.specs.declared.request.Request.{Request}
 use Rattle.machine.specs.declared.request.Request.TheVariants.{Free, Asked, Ordered}
 
@@ -15,25 +14,29 @@ abbrev pub role_of : Op → Role
 role_of Read = Reader
 role_of (Write w) = Writer
 
--- Copies ------------------------------------------------------------------------------------------
+-- Copies: what a core holds of a line is a copy or nothing ----------------------------------------
 
-abbrev pub is_copy : Held → Bool
-is_copy Nothing = false
-is_copy (Copy role word timers) = true
+abbrev pub is_copy : Option Held → Bool
+is_copy = is_some
 
-abbrev pub is_writers : Held → Bool
-is_writers Nothing = false
-is_writers (Copy Reader word timers) = false
-is_writers (Copy Writer word timers) = true
+-- whether a copy that is held in this role serves writes
+abbrev pub serves_writes : Role → Bool
+serves_writes Reader = false
+serves_writes Writer = true
 
-abbrev pub word_in : Held → ℕ
-word_in Nothing = 0
-word_in (Copy role word timers) = word
+-- whether it is a writer's copy
+abbrev pub is_writers : Option Held → Bool
+is_writers None = false
+is_writers (Some copy) = serves_writes copy.role
+
+abbrev pub word_in : Option Held → ℕ
+word_in None = 0
+word_in (Some copy) = copy.word
 
 -- for how many slots it is still held against requesters of a class
-abbrev pub timer : Class → Held → ℕ
-timer c Nothing = 0
-timer c (Copy role word timers) = against timers c
+abbrev pub timer : Class → Option Held → ℕ
+timer c None = 0
+timer c (Some copy) = against copy.timers c
 
 -- Requests ----------------------------------------------------------------------------------------
 

@@ -1,17 +1,17 @@
 -- The state of a hub between two calls, and the class of a core. The sizes of the hub stand beside the state, as z.
-use Rattle.std.specs.Prelude.{ℕ, Bool, cond, not, List, nat_lt}
+use Rattle.std.specs.Prelude.{ℕ, Bool, if◌then◌else◌, not, List, Option, nat_lt}
 use Rattle.policy.specs.Timing.{Timing}
 use Rattle.policy.specs.declared.class.Class.{Class}
 use Rattle.policy.specs.declared.class.Class.TheVariants.{Critical, NonCritical}
 use Rattle.machine.specs.declared.held.Held.{Held}
-use Rattle.machine.specs.declared.reply.Reply.{Reply}
 use Rattle.machine.specs.declared.request.Request.{Request}
 use Rattle.machine.specs.declared.sizes.Sizes.{Sizes}
 use Rattle.machine.specs.Places.{put}
+use Rattle.machine.specs.Replies.{Reply}
 
 pub record State : Type 0 where
   -- what each core holds of each line: the line first, then the core
-  pub copies : ℕ → ℕ → Held
+  pub copies : ℕ → ℕ → Option Held
   pub requests : ℕ → Request
   -- the critical core to which the next slot belongs
   pub owner : ℕ
@@ -31,18 +31,11 @@ unchanged r s = record { reply = r; state = s }
 
 -- the cores below the number of critical cores are critical
 abbrev pub class_of : Sizes → ℕ → Class
-class_of z core = cond (nat_lt core z.critical) Critical NonCritical
+class_of z core = if nat_lt core z.critical then Critical else NonCritical
 
 abbrev pub is_of : Sizes → Class → ℕ → Bool
 is_of z Critical core = nat_lt core z.critical
 is_of z NonCritical core = not (nat_lt core z.critical)
 
 abbrev pub with_request : ℕ → Request → State → State
-with_request core r s = record {
-  copies = s.copies;
-  requests = put core r s.requests;
-  owner = s.owner;
-  mark = s.mark;
-  words = s.words;
-  timing = s.timing;
-}
+with_request core r s = record s { requests = put core r s.requests }

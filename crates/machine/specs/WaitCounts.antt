@@ -3,10 +3,9 @@ use Rattle.std.specs.Prelude.{◌≡◌, ℕ, suc, min, ◌∷◌, ◌++◌}
 use Rattle.machine.specs.declared.call.Call.TheVariants.{Slot}
 use Rattle.machine.specs.declared.op.Op.{Op}
 use Rattle.machine.specs.declared.op.Role.{Role}
-use Rattle.machine.specs.declared.reply.Reply.TheVariants.{ToSlot}
-use Rattle.machine.specs.declared.reply.SlotAnswer.TheVariants.{Done}
 use Rattle.machine.specs.Answering.{Unanswered}
 use Rattle.machine.specs.History.{Start, History, From, event, slots}
+use Rattle.machine.specs.Replies.{done}
 use Rattle.machine.specs.State.{State}
 
 -- The wait that a done slot reports is the number of slot calls since the ask that it answers, itself included, and stops at the largest
@@ -14,7 +13,7 @@ use Rattle.machine.specs.State.{State}
 abbrev pub Counted : History → Type 0
 Counted h =
     (later earlier since : History) (owner core line asked_line word wait : ℕ) (role : Role) (op : Op)
-    → h ≡ later ++ (event Slot (ToSlot (Done owner core line role word wait)) ∷ earlier) → Unanswered core asked_line op since earlier
+    → h ≡ later ++ (event Slot (done owner core line role word wait) ∷ earlier) → Unanswered core asked_line op since earlier
     → wait ≡ min (suc (slots since)) 4294967295
 
 abbrev pub WaitsAreCountedInSlots : Type 0

@@ -2,14 +2,12 @@
 use crate::op::Role;
 use policy::holds::Against;
 
-// What a core holds of a line: nothing, or a copy with its word and its timers. A timer is the number
-// of slots for which the copy is still held against requesters of a class.
+/// A copy of a line that a core holds, with its word and its timers. A timer is the number of slots for
+/// which the copy is still held against requesters of a class. What a core holds of a line is an
+/// `Option<Held>`: nothing, or such a copy.
 #[derive(Clone, Copy)]
-pub enum Held {
-    Nothing,
-    Copy {
-        role: Role,
-        word: u64,
-        timers: Against,
-    },
+pub struct Held {
+    pub role: Role,
+    pub word: u64,
+    pub timers: Against,
 }

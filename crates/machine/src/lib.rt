@@ -3,6 +3,7 @@
 #![tactic(auto)]
 
 pub mod call;
+pub mod core_state;
 pub mod held;
 pub mod laws;
 pub mod op;

@@ -1,32 +1,34 @@
 // What the calls of a hub answer.
+use crate::core_state::CoreState;
 use crate::op::Role;
 use setup::bound::{Cycles, Slots};
 use setup::refusal::Refusal;
 
-// What an accepted ask answers.
-#[derive(Clone, Copy)]
+/// What an accepted ask answers.
+// No plainer as an option: `Some(word)` would not say that a copy served, nor `None` that the core waits.
+#[derive(Clone, Copy, Debug, PartialEq, Eq, Hash)]
 pub enum AskAnswer {
-    // The core's own copy serves at once, with this word.
+    /// The core's own copy serves at once, with this word.
     Hit { word: u64 },
-    // The request waits for a slot that grants it.
+    /// The request waits for a slot that grants it.
     Waits,
 }
 
-// What a slot answers. Its owner is a critical core; its user is the core whose request was tried.
-#[derive(Clone, Copy)]
+/// What a slot answers. Its owner is a critical core; its user is the core whose request was tried.
+#[derive(Clone, Copy, Debug, PartialEq, Eq, Hash)]
 pub enum SlotAnswer {
-    // Nobody who could use the slot waits.
+    /// Nobody who could use the slot waits.
     Idle {
         owner: usize,
     },
-    // The user's request was tried and waits on.
+    /// The user's request was tried and waits on.
     Waiting {
         owner: usize,
         user: usize,
         line: usize,
         role: Role,
     },
-    // The user's request was granted: the word of its new copy, and how many slots it waited.
+    /// The user's request was granted: the word of its new copy, and how many slots it waited.
     Done {
         owner: usize,
         user: usize,
@@ -37,17 +39,19 @@ pub enum SlotAnswer {
     },
 }
 
-// What a call answers, whichever call it was.
+/// What a call that is not refused answers, whichever call it was.
 #[derive(Clone, Copy)]
-pub enum Reply {
-    Refused(Refusal),
+pub enum Answer {
     ToAsk(AskAnswer),
     ToSlot(SlotAnswer),
-    // How many words a settle stored.
+    /// How many words a settle stored.
     Settled { stored: usize },
     Word(u64),
-    // A core's state on a line, by its code.
-    Code(u8),
-    // The bound of a critical wait.
+    /// A core's state on a line.
+    State(CoreState),
+    /// The bound of a critical wait.
     Bound { slots: Slots, cycles: Cycles },
 }
+
+/// What a call is answered: an answer, or a refusal.
+pub type Reply = Result<Answer, Refusal>;

@@ -1,18 +1,18 @@
 // Requests.
 use crate::op::Op;
 
-// The request of a core. Its wait is the number of slots since its ask.
-#[derive(Clone, Copy)]
+/// The request of a core. Its wait is the number of slots since its ask.
+#[derive(Clone, Copy, Debug, PartialEq, Eq, Hash)]
 pub enum Request {
-    // Nothing is asked for.
+    /// Nothing is asked for.
     Free,
-    // Accepted; no slot has had its core as user since.
+    /// Accepted; no slot has had its core as user since.
     Asked {
         line: usize,
         op: Op,
         wait: u32,
     },
-    // In its line's order, behind so many ordered requests of its class.
+    /// In its line's order, behind so many ordered requests of its class.
     Ordered {
         line: usize,
         op: Op,

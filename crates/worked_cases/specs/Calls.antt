@@ -1,11 +1,11 @@
 -- One table of worked runs of the machine, call by call, and of the names of its states.
 use Rattle.std.specs.Prelude.{◌≡◌, ℕ, List, [], ◌∷◌, map, codes}
 use Rattle.machine.specs.declared.call.Call.{Call}
-use Rattle.machine.specs.declared.reply.Reply.{Reply}
 use Rattle.machine.specs.History.{Start, sizes, fresh}
 use Rattle.machine.specs.Machine.{Played, play}
+use Rattle.machine.specs.Replies.{Reply}
 use Rattle.machine.specs.StateNames.{state_name}
-use Rattle.worked_cases.specs.Runs.{Run, small, hand_over, upgrade, critical_first, two_orders, three_in_order, settled_twice, round, all_codes, refusals, no_memory, bound_reached, timetable}
+use Rattle.worked_cases.specs.Runs.{Run, small, hand_over, upgrade, critical_first, two_orders, three_in_order, settled_twice, round, all_states, refusals, no_memory, bound_reached, timetable}
 
 pub data Question : Type 0 where
   -- the name of a state, by its code
@@ -54,7 +54,7 @@ table =
     ∷ as_told three_in_order
     ∷ as_told settled_twice
     ∷ as_told round
-    ∷ as_told all_codes
+    ∷ as_told all_states
     ∷ as_told refusals
     ∷ as_told no_memory
     ∷ as_told bound_reached

@@ -8,12 +8,11 @@ use Rattle.policy.specs.declared.class.Class.{Class}
 use Rattle.policy.specs.declared.class.Class.TheVariants.{Critical, NonCritical}
 use Rattle.policy.specs.declared.holds.FourHolds.{FourHolds}
 use Rattle.machine.specs.declared.call.Call.TheVariants.{Ask, Slot, Settle, WordOf, StateOf, BoundOf}
+use Rattle.machine.specs.declared.core_state.CoreState.TheVariants.{I, S, M, Sti, Mti, Isad, Isd, Imad, Imd}
 use Rattle.machine.specs.declared.op.Op.TheVariants.{Read, Write}
 use Rattle.machine.specs.declared.op.Role.TheVariants.{Reader, Writer}
-use Rattle.machine.specs.declared.reply.AskAnswer.TheVariants.{Hit, Waits}
-use Rattle.machine.specs.declared.reply.Reply.TheVariants.{Refused, ToAsk, ToSlot, Settled, Word, Code, Bound}
-use Rattle.machine.specs.declared.reply.SlotAnswer.TheVariants.{Idle, Waiting, Done}
 use Rattle.machine.specs.History.{Start, Event, event}
+use Rattle.machine.specs.Replies.{refused, hit, waits, idle, waiting, done, settled, has_word, in_state, bounded}
 
 -- what the hub is started on, the events, the earliest first, and the words that the memory has at the end
 pub record Run : Type 0 where
@@ -40,13 +39,13 @@ run d v words events left = started d (fixed v) words events left
 abbrev pub small : Run
 small =
     run (numbers 2 1 1 50) (holds 1 2 2 1) (replicate 32 0)
-    (event BoundOf (Bound (record { count = 2 }) (record { count = 100 }))
-    ∷ event (Ask 1 0 (Write 7)) (ToAsk Waits)
-    ∷ event Slot (ToSlot (Done 0 1 0 Writer 7 1))
-    ∷ event (Ask 0 0 Read) (ToAsk Waits)
-    ∷ event Slot (ToSlot (Waiting 0 0 0 Reader))
-    ∷ event Slot (ToSlot (Done 0 0 0 Reader 7 2))
-    ∷ event Settle (Settled 0)
+    (event BoundOf (bounded 2 100)
+    ∷ event (Ask 1 0 (Write 7)) waits
+    ∷ event Slot (done 0 1 0 Writer 7 1)
+    ∷ event (Ask 0 0 Read) waits
+    ∷ event Slot (waiting 0 0 0 Reader)
+    ∷ event Slot (done 0 0 0 Reader 7 2)
+    ∷ event Settle (settled 0)
     ∷ [])
     (7 ∷ replicate 31 0)
 
@@ -54,22 +53,22 @@ small =
 abbrev pub hand_over : Run
 hand_over =
     run (numbers 3 2 1 50) (holds 2 3 1 4) (5 ∷ [])
-    (event (Ask 2 0 Read) (ToAsk Waits)
-    ∷ event Slot (ToSlot (Done 0 2 0 Reader 5 1))
-    ∷ event (Ask 1 0 Read) (ToAsk Waits)
-    ∷ event (Ask 0 0 (Write 9)) (ToAsk Waits)
-    ∷ event Slot (ToSlot (Done 1 1 0 Reader 5 1))
-    ∷ event Slot (ToSlot (Waiting 0 0 0 Writer))
-    ∷ event (StateOf 2 0) (Code 3)
-    ∷ event Slot (ToSlot (Idle 1))
-    ∷ event (Ask 2 0 (Write 8)) (ToAsk Waits)
-    ∷ event Slot (ToSlot (Done 0 0 0 Writer 9 4))
-    ∷ event Slot (ToSlot (Waiting 1 2 0 Writer))
-    ∷ event Slot (ToSlot (Waiting 0 2 0 Writer))
-    ∷ event (Ask 0 0 (Write 6)) (ToAsk (Hit 6))
-    ∷ event Slot (ToSlot (Done 1 2 0 Writer 8 4))
-    ∷ event Settle (Settled 1)
-    ∷ event (WordOf 0) (Word 8)
+    (event (Ask 2 0 Read) waits
+    ∷ event Slot (done 0 2 0 Reader 5 1)
+    ∷ event (Ask 1 0 Read) waits
+    ∷ event (Ask 0 0 (Write 9)) waits
+    ∷ event Slot (done 1 1 0 Reader 5 1)
+    ∷ event Slot (waiting 0 0 0 Writer)
+    ∷ event (StateOf 2 0) (in_state Sti)
+    ∷ event Slot (idle 1)
+    ∷ event (Ask 2 0 (Write 8)) waits
+    ∷ event Slot (done 0 0 0 Writer 9 4)
+    ∷ event Slot (waiting 1 2 0 Writer)
+    ∷ event Slot (waiting 0 2 0 Writer)
+    ∷ event (Ask 0 0 (Write 6)) (hit 6)
+    ∷ event Slot (done 1 2 0 Writer 8 4)
+    ∷ event Settle (settled 1)
+    ∷ event (WordOf 0) (has_word 8)
     ∷ [])
     (8 ∷ [])
 
@@ -77,19 +76,19 @@ hand_over =
 abbrev pub upgrade : Run
 upgrade =
     run (numbers 2 2 1 50) (holds 3 2 0 0) (0 ∷ [])
-    (event (Ask 0 0 Read) (ToAsk Waits)
-    ∷ event Slot (ToSlot (Done 0 0 0 Reader 0 1))
-    ∷ event (Ask 0 0 (Write 4)) (ToAsk Waits)
-    ∷ event (StateOf 0 0) (Code 1)
-    ∷ event Slot (ToSlot (Idle 1))
-    ∷ event Slot (ToSlot (Waiting 0 0 0 Writer))
-    ∷ event (StateOf 0 0) (Code 3)
-    ∷ event Slot (ToSlot (Idle 1))
-    ∷ event Slot (ToSlot (Done 0 0 0 Writer 4 4))
-    ∷ event (StateOf 0 0) (Code 2)
-    ∷ event (Ask 0 0 Read) (ToAsk (Hit 4))
-    ∷ event (Ask 0 0 (Write 5)) (ToAsk (Hit 5))
-    ∷ event (WordOf 0) (Word 5)
+    (event (Ask 0 0 Read) waits
+    ∷ event Slot (done 0 0 0 Reader 0 1)
+    ∷ event (Ask 0 0 (Write 4)) waits
+    ∷ event (StateOf 0 0) (in_state S)
+    ∷ event Slot (idle 1)
+    ∷ event Slot (waiting 0 0 0 Writer)
+    ∷ event (StateOf 0 0) (in_state Sti)
+    ∷ event Slot (idle 1)
+    ∷ event Slot (done 0 0 0 Writer 4 4)
+    ∷ event (StateOf 0 0) (in_state M)
+    ∷ event (Ask 0 0 Read) (hit 4)
+    ∷ event (Ask 0 0 (Write 5)) (hit 5)
+    ∷ event (WordOf 0) (has_word 5)
     ∷ [])
     (0 ∷ [])
 
@@ -97,23 +96,23 @@ upgrade =
 abbrev pub critical_first : Run
 critical_first =
     run (numbers 5 3 2 50) (holds 1 1 7 1) (0 ∷ 0 ∷ [])
-    (event (Ask 3 0 Read) (ToAsk Waits)
-    ∷ event Slot (ToSlot (Done 0 3 0 Reader 0 1))
-    ∷ event (Ask 1 0 (Write 7)) (ToAsk Waits)
-    ∷ event Slot (ToSlot (Waiting 1 1 0 Writer))
-    ∷ event Slot (ToSlot (Idle 2))
-    ∷ event (Ask 0 0 Read) (ToAsk Waits)
-    ∷ event Slot (ToSlot (Waiting 0 0 0 Reader))
-    ∷ event (Ask 2 1 Read) (ToAsk Waits)
-    ∷ event Slot (ToSlot (Waiting 1 1 0 Writer))
-    ∷ event Slot (ToSlot (Done 2 2 1 Reader 0 2))
-    ∷ event Slot (ToSlot (Waiting 0 0 0 Reader))
-    ∷ event (Ask 4 0 Read) (ToAsk Waits)
-    ∷ event Slot (ToSlot (Done 1 1 0 Writer 7 7))
-    ∷ event Slot (ToSlot (Waiting 2 4 0 Reader))
-    ∷ event Slot (ToSlot (Done 0 0 0 Reader 7 7))
-    ∷ event Slot (ToSlot (Done 1 4 0 Reader 7 4))
-    ∷ event (WordOf 0) (Word 7)
+    (event (Ask 3 0 Read) waits
+    ∷ event Slot (done 0 3 0 Reader 0 1)
+    ∷ event (Ask 1 0 (Write 7)) waits
+    ∷ event Slot (waiting 1 1 0 Writer)
+    ∷ event Slot (idle 2)
+    ∷ event (Ask 0 0 Read) waits
+    ∷ event Slot (waiting 0 0 0 Reader)
+    ∷ event (Ask 2 1 Read) waits
+    ∷ event Slot (waiting 1 1 0 Writer)
+    ∷ event Slot (done 2 2 1 Reader 0 2)
+    ∷ event Slot (waiting 0 0 0 Reader)
+    ∷ event (Ask 4 0 Read) waits
+    ∷ event Slot (done 1 1 0 Writer 7 7)
+    ∷ event Slot (waiting 2 4 0 Reader)
+    ∷ event Slot (done 0 0 0 Reader 7 7)
+    ∷ event Slot (done 1 4 0 Reader 7 4)
+    ∷ event (WordOf 0) (has_word 7)
     ∷ [])
     (7 ∷ 0 ∷ [])
 
@@ -121,17 +120,17 @@ critical_first =
 abbrev pub two_orders : Run
 two_orders =
     run (numbers 4 1 1 50) (holds 0 0 3 6) (0 ∷ [])
-    (event (Ask 1 0 (Write 1)) (ToAsk Waits)
-    ∷ event Slot (ToSlot (Done 0 1 0 Writer 1 1))
-    ∷ event (Ask 2 0 (Write 2)) (ToAsk Waits)
-    ∷ event Slot (ToSlot (Waiting 0 2 0 Writer))
-    ∷ event (Ask 3 0 (Write 3)) (ToAsk Waits)
-    ∷ event Slot (ToSlot (Waiting 0 3 0 Writer))
-    ∷ event Slot (ToSlot (Waiting 0 2 0 Writer))
-    ∷ event (Ask 0 0 Read) (ToAsk Waits)
-    ∷ event Slot (ToSlot (Done 0 0 0 Reader 1 1))
-    ∷ event Slot (ToSlot (Waiting 0 3 0 Writer))
-    ∷ event Slot (ToSlot (Done 0 2 0 Writer 2 6))
+    (event (Ask 1 0 (Write 1)) waits
+    ∷ event Slot (done 0 1 0 Writer 1 1)
+    ∷ event (Ask 2 0 (Write 2)) waits
+    ∷ event Slot (waiting 0 2 0 Writer)
+    ∷ event (Ask 3 0 (Write 3)) waits
+    ∷ event Slot (waiting 0 3 0 Writer)
+    ∷ event Slot (waiting 0 2 0 Writer)
+    ∷ event (Ask 0 0 Read) waits
+    ∷ event Slot (done 0 0 0 Reader 1 1)
+    ∷ event Slot (waiting 0 3 0 Writer)
+    ∷ event Slot (done 0 2 0 Writer 2 6)
     ∷ [])
     (1 ∷ [])
 
@@ -139,21 +138,21 @@ two_orders =
 abbrev pub three_in_order : Run
 three_in_order =
     run (numbers 4 4 1 50) (holds 2 0 0 0) (0 ∷ [])
-    (event (Ask 0 0 (Write 1)) (ToAsk Waits)
-    ∷ event Slot (ToSlot (Done 0 0 0 Writer 1 1))
-    ∷ event (Ask 1 0 (Write 2)) (ToAsk Waits)
-    ∷ event (Ask 2 0 (Write 3)) (ToAsk Waits)
-    ∷ event (Ask 3 0 (Write 4)) (ToAsk Waits)
-    ∷ event Slot (ToSlot (Waiting 1 1 0 Writer))
-    ∷ event Slot (ToSlot (Waiting 2 2 0 Writer))
-    ∷ event Slot (ToSlot (Waiting 3 3 0 Writer))
-    ∷ event Slot (ToSlot (Idle 0))
-    ∷ event Slot (ToSlot (Done 1 1 0 Writer 2 5))
-    ∷ event Slot (ToSlot (Waiting 2 2 0 Writer))
-    ∷ event Slot (ToSlot (Waiting 3 3 0 Writer))
-    ∷ event Slot (ToSlot (Idle 0))
-    ∷ event Slot (ToSlot (Idle 1))
-    ∷ event Slot (ToSlot (Done 2 2 0 Writer 3 10))
+    (event (Ask 0 0 (Write 1)) waits
+    ∷ event Slot (done 0 0 0 Writer 1 1)
+    ∷ event (Ask 1 0 (Write 2)) waits
+    ∷ event (Ask 2 0 (Write 3)) waits
+    ∷ event (Ask 3 0 (Write 4)) waits
+    ∷ event Slot (waiting 1 1 0 Writer)
+    ∷ event Slot (waiting 2 2 0 Writer)
+    ∷ event Slot (waiting 3 3 0 Writer)
+    ∷ event Slot (idle 0)
+    ∷ event Slot (done 1 1 0 Writer 2 5)
+    ∷ event Slot (waiting 2 2 0 Writer)
+    ∷ event Slot (waiting 3 3 0 Writer)
+    ∷ event Slot (idle 0)
+    ∷ event Slot (idle 1)
+    ∷ event Slot (done 2 2 0 Writer 3 10)
     ∷ [])
     (2 ∷ [])
 
@@ -161,15 +160,15 @@ three_in_order =
 abbrev pub settled_twice : Run
 settled_twice =
     run (numbers 2 1 3 50) (holds 0 0 0 0) (1 ∷ 2 ∷ 3 ∷ [])
-    (event (Ask 0 0 (Write 5)) (ToAsk Waits)
-    ∷ event (Ask 1 2 (Write 6)) (ToAsk Waits)
-    ∷ event Slot (ToSlot (Done 0 0 0 Writer 5 1))
-    ∷ event Slot (ToSlot (Done 0 1 2 Writer 6 2))
-    ∷ event Settle (Settled 2)
-    ∷ event (Ask 1 2 (Write 7)) (ToAsk (Hit 7))
-    ∷ event (WordOf 2) (Word 7)
-    ∷ event (Ask 0 0 Read) (ToAsk (Hit 5))
-    ∷ event Settle (Settled 2)
+    (event (Ask 0 0 (Write 5)) waits
+    ∷ event (Ask 1 2 (Write 6)) waits
+    ∷ event Slot (done 0 0 0 Writer 5 1)
+    ∷ event Slot (done 0 1 2 Writer 6 2)
+    ∷ event Settle (settled 2)
+    ∷ event (Ask 1 2 (Write 7)) (hit 7)
+    ∷ event (WordOf 2) (has_word 7)
+    ∷ event (Ask 0 0 Read) (hit 5)
+    ∷ event Settle (settled 2)
     ∷ [])
     (5 ∷ 2 ∷ 7 ∷ [])
 
@@ -177,49 +176,49 @@ settled_twice =
 abbrev pub round : Run
 round =
     run (numbers 5 2 4 50) (holds 0 0 0 0) (1 ∷ 2 ∷ 3 ∷ 4 ∷ [])
-    (event (Ask 2 2 Read) (ToAsk Waits)
-    ∷ event Slot (ToSlot (Done 0 2 2 Reader 3 1))
-    ∷ event (Ask 2 2 (Write 9)) (ToAsk Waits)
-    ∷ event (Ask 3 3 Read) (ToAsk Waits)
-    ∷ event (Ask 4 1 Read) (ToAsk Waits)
-    ∷ event Slot (ToSlot (Done 1 3 3 Reader 4 1))
-    ∷ event (Ask 0 0 Read) (ToAsk Waits)
-    ∷ event Slot (ToSlot (Done 0 0 0 Reader 1 1))
-    ∷ event Slot (ToSlot (Done 1 4 1 Reader 2 3))
-    ∷ event Slot (ToSlot (Done 0 2 2 Writer 9 4))
-    ∷ event (Ask 2 3 Read) (ToAsk Waits)
-    ∷ event Slot (ToSlot (Done 1 2 3 Reader 4 1))
-    ∷ event Slot (ToSlot (Idle 0))
+    (event (Ask 2 2 Read) waits
+    ∷ event Slot (done 0 2 2 Reader 3 1)
+    ∷ event (Ask 2 2 (Write 9)) waits
+    ∷ event (Ask 3 3 Read) waits
+    ∷ event (Ask 4 1 Read) waits
+    ∷ event Slot (done 1 3 3 Reader 4 1)
+    ∷ event (Ask 0 0 Read) waits
+    ∷ event Slot (done 0 0 0 Reader 1 1)
+    ∷ event Slot (done 1 4 1 Reader 2 3)
+    ∷ event Slot (done 0 2 2 Writer 9 4)
+    ∷ event (Ask 2 3 Read) waits
+    ∷ event Slot (done 1 2 3 Reader 4 1)
+    ∷ event Slot (idle 0)
     ∷ [])
     (1 ∷ 2 ∷ 3 ∷ 4 ∷ [])
 
--- All nine codes, also on a line that is not asked for.
-abbrev pub all_codes : Run
-all_codes =
+-- All nine states, also on a line that is not asked for.
+abbrev pub all_states : Run
+all_states =
     run (numbers 2 1 2 50) (holds 0 3 2 0) (0 ∷ 0 ∷ [])
-    (event (Ask 1 1 Read) (ToAsk Waits)
-    ∷ event Slot (ToSlot (Done 0 1 1 Reader 0 1))
-    ∷ event (StateOf 1 0) (Code 0)
-    ∷ event (Ask 1 0 (Write 6)) (ToAsk Waits)
-    ∷ event (StateOf 1 0) (Code 7)
-    ∷ event Slot (ToSlot (Done 0 1 0 Writer 6 1))
-    ∷ event (StateOf 1 0) (Code 2)
-    ∷ event (Ask 0 0 Read) (ToAsk Waits)
-    ∷ event (StateOf 0 0) (Code 5)
-    ∷ event Slot (ToSlot (Waiting 0 0 0 Reader))
-    ∷ event (StateOf 0 0) (Code 6)
-    ∷ event (StateOf 0 1) (Code 0)
-    ∷ event (StateOf 1 0) (Code 4)
-    ∷ event Slot (ToSlot (Done 0 0 0 Reader 6 2))
-    ∷ event (StateOf 0 0) (Code 1)
-    ∷ event (Ask 1 0 (Write 2)) (ToAsk Waits)
-    ∷ event Slot (ToSlot (Waiting 0 1 0 Writer))
-    ∷ event (StateOf 1 0) (Code 8)
-    ∷ event (StateOf 0 0) (Code 3)
-    ∷ event (StateOf 1 1) (Code 1)
-    ∷ event Slot (ToSlot (Waiting 0 1 0 Writer))
-    ∷ event Slot (ToSlot (Done 0 1 0 Writer 2 3))
-    ∷ event (StateOf 0 0) (Code 0)
+    (event (Ask 1 1 Read) waits
+    ∷ event Slot (done 0 1 1 Reader 0 1)
+    ∷ event (StateOf 1 0) (in_state I)
+    ∷ event (Ask 1 0 (Write 6)) waits
+    ∷ event (StateOf 1 0) (in_state Imad)
+    ∷ event Slot (done 0 1 0 Writer 6 1)
+    ∷ event (StateOf 1 0) (in_state M)
+    ∷ event (Ask 0 0 Read) waits
+    ∷ event (StateOf 0 0) (in_state Isad)
+    ∷ event Slot (waiting 0 0 0 Reader)
+    ∷ event (StateOf 0 0) (in_state Isd)
+    ∷ event (StateOf 0 1) (in_state I)
+    ∷ event (StateOf 1 0) (in_state Mti)
+    ∷ event Slot (done 0 0 0 Reader 6 2)
+    ∷ event (StateOf 0 0) (in_state S)
+    ∷ event (Ask 1 0 (Write 2)) waits
+    ∷ event Slot (waiting 0 1 0 Writer)
+    ∷ event (StateOf 1 0) (in_state Imd)
+    ∷ event (StateOf 0 0) (in_state Sti)
+    ∷ event (StateOf 1 1) (in_state S)
+    ∷ event Slot (waiting 0 1 0 Writer)
+    ∷ event Slot (done 0 1 0 Writer 2 3)
+    ∷ event (StateOf 0 0) (in_state I)
     ∷ [])
     (6 ∷ 0 ∷ [])
 
@@ -227,16 +226,16 @@ all_codes =
 abbrev pub refusals : Run
 refusals =
     run (numbers 2 1 4 50) (holds 0 0 0 0) (8 ∷ 9 ∷ [])
-    (event (Ask 2 7 Read) (Refused NoSuchCore)
-    ∷ event (Ask 1 2 Read) (Refused NoSuchLine)
-    ∷ event (Ask 1 1 Read) (ToAsk Waits)
-    ∷ event (Ask 1 1 Read) (Refused RequestPending)
-    ∷ event (Ask 1 2 Read) (Refused NoSuchLine)
-    ∷ event (StateOf 2 2) (Refused NoSuchCore)
-    ∷ event (StateOf 1 2) (Refused NoSuchLine)
-    ∷ event (WordOf 2) (Refused NoSuchLine)
-    ∷ event (WordOf 1) (Word 9)
-    ∷ event Slot (ToSlot (Done 0 1 1 Reader 9 1))
+    (event (Ask 2 7 Read) (refused NoSuchCore)
+    ∷ event (Ask 1 2 Read) (refused NoSuchLine)
+    ∷ event (Ask 1 1 Read) waits
+    ∷ event (Ask 1 1 Read) (refused RequestPending)
+    ∷ event (Ask 1 2 Read) (refused NoSuchLine)
+    ∷ event (StateOf 2 2) (refused NoSuchCore)
+    ∷ event (StateOf 1 2) (refused NoSuchLine)
+    ∷ event (WordOf 2) (refused NoSuchLine)
+    ∷ event (WordOf 1) (has_word 9)
+    ∷ event Slot (done 0 1 1 Reader 9 1)
     ∷ [])
     (8 ∷ 9 ∷ [])
 
@@ -244,10 +243,10 @@ refusals =
 abbrev pub no_memory : Run
 no_memory =
     run (numbers 2 1 4 50) (holds 0 0 0 0) ([])
-    (event (Ask 0 0 Read) (Refused NoSuchLine)
-    ∷ event (Ask 2 0 Read) (Refused NoSuchCore)
-    ∷ event Slot (ToSlot (Idle 0))
-    ∷ event Settle (Settled 0)
+    (event (Ask 0 0 Read) (refused NoSuchLine)
+    ∷ event (Ask 2 0 Read) (refused NoSuchCore)
+    ∷ event Slot (idle 0)
+    ∷ event Settle (settled 0)
     ∷ [])
     ([])
 
@@ -255,13 +254,13 @@ no_memory =
 abbrev pub bound_reached : Run
 bound_reached =
     run (numbers 2 1 1 50) (holds 1 0 3 0) (0 ∷ [])
-    (event BoundOf (Bound (record { count = 3 }) (record { count = 150 }))
-    ∷ event (Ask 1 0 (Write 1)) (ToAsk Waits)
-    ∷ event Slot (ToSlot (Done 0 1 0 Writer 1 1))
-    ∷ event (Ask 0 0 Read) (ToAsk Waits)
-    ∷ event Slot (ToSlot (Waiting 0 0 0 Reader))
-    ∷ event Slot (ToSlot (Waiting 0 0 0 Reader))
-    ∷ event Slot (ToSlot (Done 0 0 0 Reader 1 3))
+    (event BoundOf (bounded 3 150)
+    ∷ event (Ask 1 0 (Write 1)) waits
+    ∷ event Slot (done 0 1 0 Writer 1 1)
+    ∷ event (Ask 0 0 Read) waits
+    ∷ event Slot (waiting 0 0 0 Reader)
+    ∷ event Slot (waiting 0 0 0 Reader)
+    ∷ event Slot (done 0 0 0 Reader 1 3)
     ∷ [])
     (1 ∷ [])
 
@@ -275,18 +274,18 @@ hold k core NonCritical line NonCritical = k + core
 abbrev pub timetable : Run
 timetable =
     started (numbers 3 1 2 50) (record { caps = record { critical = 2; noncritical = 3 }; hold = hold }) (0 ∷ 0 ∷ [])
-    (event BoundOf (Bound (record { count = 3 }) (record { count = 150 }))
-    ∷ event (Ask 0 1 (Write 4)) (ToAsk Waits)
-    ∷ event Slot (ToSlot (Done 0 0 1 Writer 4 1))
-    ∷ event (Ask 1 1 Read) (ToAsk Waits)
-    ∷ event Slot (ToSlot (Done 0 1 1 Reader 4 1))
-    ∷ event (Ask 2 1 (Write 6)) (ToAsk Waits)
-    ∷ event Slot (ToSlot (Waiting 0 2 1 Writer))
-    ∷ event Slot (ToSlot (Done 0 2 1 Writer 6 2))
-    ∷ event (Ask 0 1 Read) (ToAsk Waits)
-    ∷ event Slot (ToSlot (Waiting 0 0 1 Reader))
-    ∷ event Slot (ToSlot (Waiting 0 0 1 Reader))
-    ∷ event Slot (ToSlot (Done 0 0 1 Reader 6 3))
-    ∷ event Settle (Settled 0)
+    (event BoundOf (bounded 3 150)
+    ∷ event (Ask 0 1 (Write 4)) waits
+    ∷ event Slot (done 0 0 1 Writer 4 1)
+    ∷ event (Ask 1 1 Read) waits
+    ∷ event Slot (done 0 1 1 Reader 4 1)
+    ∷ event (Ask 2 1 (Write 6)) waits
+    ∷ event Slot (waiting 0 2 1 Writer)
+    ∷ event Slot (done 0 2 1 Writer 6 2)
+    ∷ event (Ask 0 1 Read) waits
+    ∷ event Slot (waiting 0 0 1 Reader)
+    ∷ event Slot (waiting 0 0 1 Reader)
+    ∷ event Slot (done 0 0 1 Reader 6 3)
+    ∷ event Settle (settled 0)
     ∷ [])
     (0 ∷ 6 ∷ [])
