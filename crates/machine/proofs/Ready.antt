@@ -2,11 +2,11 @@
 -- policy, copies and requests, each by itself, and not of the memory.
 use Rattle.std.proofs.Common.{◌≡◌, ℕ, ◌+◌, ◌-◌, ◌<◌, ◌≤◌, max, true, ◌&&◌, ap, inl, inr, arith, Option}
 use Rattle.std.proofs.lemmas.Bool.{cases_lt, lt-ltb, le-ltb}
-use Rattle.setup.specs.Bound.{bound}
-use Rattle.setup.specs.declared.bound.Caps.{Caps}
-use Rattle.policy.specs.Timing.{Timing, Lawful, later, cap}
-use Rattle.policy.specs.declared.class.Class.{Class}
-use Rattle.policy.specs.declared.class.Class.TheVariants.{Critical, NonCritical}
+use Rattle.setup.specs.Bound.{Caps, bound}
+use Rattle.policy.specs.Timing.{Timing, Lawful, later}
+use Rattle.setup.specs.Classes.{of_class}
+use Rattle.setup.specs.declared.class.Class.{Class}
+use Rattle.setup.specs.declared.class.Class.TheVariants.{Critical, NonCritical}
 use Rattle.machine.specs.declared.held.Held.{Held}
 use Rattle.machine.specs.declared.request.Request.{Request}
 use Rattle.machine.specs.declared.sizes.Sizes.{Sizes}
@@ -37,7 +37,7 @@ OverIn z s = Over z s.copies s.requests
 pub record Fit (z : Sizes) (caps : Caps) : Type 0 where
   pub some_critical : 1 ≤ z.critical
   pub few_critical : z.critical ≤ z.cores
-  pub some_caps : (holder : Class) → 1 ≤ cap caps holder
+  pub some_caps : (holder : Class) → 1 ≤ of_class caps holder
 
 pub record InTurn (z : Sizes) (owner mark : ℕ) : Type 0 where
   pub owner_critical : owner < z.critical
@@ -105,7 +105,7 @@ module _ (z : Sizes) (caps : Caps) (fit : Fit z caps) where
   hold_small d s u l r =
       elim (cases_lt u z.critical) [
         | inl h ↦ rw (class_critical z u h)
-            (omega (arith, r.timed.lawful.capped 0 u Critical l, ap (λ c. cap c Critical) r.timed.same_caps))
+            (omega (arith, r.timed.lawful.capped 0 u Critical l, ap (λ c. of_class c Critical) r.timed.same_caps))
         | inr h ↦ rw (class_other z u h)
-            (omega (arith, r.timed.lawful.capped 0 u NonCritical l, ap (λ c. cap c NonCritical) r.timed.same_caps))
+            (omega (arith, r.timed.lawful.capped 0 u NonCritical l, ap (λ c. of_class c NonCritical) r.timed.same_caps))
       ]

@@ -1,11 +1,10 @@
 -- Every call keeps a hub ready, and so it is in every state reached.
 use Rattle.std.proofs.Common.{◌≡◌, ℕ, ◌+◌, ◌-◌, ◌*◌, ◌<◌, ◌≤◌, true, false, Some, None, Option, sym, refl, ap, ◌∙◌, subst, mul-le-mul, arith}
-use Rattle.setup.specs.Bound.{bound}
-use Rattle.setup.specs.declared.bound.Caps.{Caps}
+use Rattle.setup.specs.Bound.{Caps, bound}
 use Rattle.setup.specs.declared.refusal.Refusal.{Refusal}
 use Rattle.policy.specs.Timing.{Lawful}
-use Rattle.policy.specs.declared.class.Class.{Class}
-use Rattle.policy.specs.declared.class.Class.TheVariants.{Critical, NonCritical}
+use Rattle.setup.specs.declared.class.Class.{Class}
+use Rattle.setup.specs.declared.class.Class.TheVariants.{Critical, NonCritical}
 use Rattle.machine.specs.declared.call.Call.{Call}
 use Rattle.machine.specs.declared.call.Call.TheVariants.{Ask, Slot, Settle, WordOf, StateOf, BoundOf}
 use Rattle.machine.specs.declared.held.Held.{Held}

@@ -1,10 +1,9 @@
 -- A grant keeps a hub ready.
 use Rattle.std.proofs.Common.{◌≡◌, ℕ, suc, ◌+◌, ◌<◌, ◌≤◌, max, true, false, ◌≢◌, ◌⊎◌, sym, refl, ap, ◌∙◌, inl, inr, arith, Some}
 use Rattle.std.proofs.lemmas.Bool.{cases_eq}
-use Rattle.setup.specs.Bound.{bound}
-use Rattle.setup.specs.declared.bound.Caps.{Caps}
-use Rattle.policy.specs.Timing.{cap}
-use Rattle.policy.specs.declared.class.Class.TheVariants.{Critical}
+use Rattle.setup.specs.Bound.{Caps, bound}
+use Rattle.setup.specs.Classes.{of_class}
+use Rattle.setup.specs.declared.class.Class.TheVariants.{Critical}
 use Rattle.machine.specs.declared.sizes.Sizes.{Sizes}
 use Rattle.machine.specs.Grant.{ended, loaded, grant}
 use Rattle.machine.specs.Granting.{in_way}
@@ -97,7 +96,7 @@ module _ (z : Sizes) (caps : Caps) (fit : Fit z caps) where
 
       new_timer : s.timing.hold 0 u (class_of z u) l Critical ≤ caps.critical
       new_timer = rw (class_critical z u h)
-          (omega (arith, r.timed.lawful.capped 0 u Critical l, ap (λ c. cap c Critical) r.timed.same_caps))
+          (omega (arith, r.timed.lawful.capped 0 u Critical l, ap (λ c. of_class c Critical) r.timed.same_caps))
 
       from : (i l' b : ℕ) → i < z.critical → seats s' i ≡ seated l' b
           → (i ≢ u) × (((l ≡ l') × (seats s i ≡ seated l' (suc b))) ⊎ ((l ≢ l') × (seats s i ≡ seated l' b)))

@@ -1,8 +1,8 @@
 -- A whole slot keeps a hub ready.
 use Rattle.std.proofs.Common.{◌≡◌, ℕ, ◌+◌, ◌<◌, ◌≤◌, Bool, true, false, Some, None, Option, sym, refl, ap, ◌∙◌, inl, inr, arith}
 use Rattle.std.proofs.lemmas.Bool.{eq-eqb, eqb-true, and_parts}
-use Rattle.setup.specs.declared.bound.Caps.{Caps}
-use Rattle.policy.specs.declared.class.Class.TheVariants.{Critical, NonCritical}
+use Rattle.setup.specs.Bound.{Caps}
+use Rattle.setup.specs.declared.class.Class.TheVariants.{Critical, NonCritical}
 use Rattle.machine.specs.declared.sizes.Sizes.{Sizes}
 use Rattle.machine.specs.Arbitration.{user_of, move_mark}
 use Rattle.machine.specs.Granting.{in_way, lets_pass, is_first, has_priority, is_granted}

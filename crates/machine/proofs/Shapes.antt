@@ -1,6 +1,6 @@
 -- The state without timers, which the steps of a slot leave as it is until a grant.
 use Rattle.std.proofs.Common.{◌≡◌, ℕ, true, length, get_or, sym, refl, ap, ◌∙◌, Some, None, Option, arith}
-use Rattle.policy.specs.declared.class.Class.{Class}
+use Rattle.setup.specs.declared.class.Class.{Class}
 use Rattle.machine.specs.declared.held.Held.{Held}
 use Rattle.machine.specs.declared.op.Role.{Role}
 use Rattle.machine.specs.declared.op.Role.TheVariants.{Reader, Writer}

@@ -2,7 +2,7 @@
 use Rattle.std.proofs.Common.{◌≡◌, ℕ, suc, ◌+◌, min, true, false, cond, ◌≢◌, ◌⊎◌, [], ◌∷◌, ◌++◌, Some, None, Option, sym, refl, subst, inl, inr, arith}
 use Rattle.std.proofs.lemmas.Bool.{eq-eqb, cases_eq}
 use Rattle.setup.specs.declared.refusal.Refusal.{Refusal}
-use Rattle.policy.specs.declared.class.Class.{Class}
+use Rattle.setup.specs.declared.class.Class.{Class}
 use Rattle.machine.specs.declared.call.Call.{Call}
 use Rattle.machine.specs.declared.call.Call.TheVariants.{Ask, Slot, Settle, WordOf, StateOf, BoundOf}
 use Rattle.machine.specs.declared.held.Held.{Held}

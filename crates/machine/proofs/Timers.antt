@@ -1,7 +1,7 @@
 -- Timers and what is in the way, as time passes and copies end.
 use Rattle.std.proofs.Common.{◌≡◌, ℕ, ◌-◌, ◌≤◌, Bool, true, arith, Option}
-use Rattle.policy.specs.declared.class.Class.{Class}
-use Rattle.policy.specs.declared.class.Class.TheVariants.{Critical}
+use Rattle.setup.specs.declared.class.Class.{Class}
+use Rattle.setup.specs.declared.class.Class.TheVariants.{Critical}
 use Rattle.machine.specs.declared.held.Held.{Held}
 use Rattle.machine.specs.declared.op.Op.{Op}
 use Rattle.machine.specs.Grant.{ended}

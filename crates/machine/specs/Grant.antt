@@ -1,8 +1,8 @@
 -- Step 7 of a slot: the grant.
 use Rattle.std.specs.Prelude.{ℕ, zero, suc, ◌-◌, Bool, if◌then◌else◌, ◌&&◌, List, Some, None, Option, ◌==◌, slice_index, slice_set}
-use Rattle.policy.specs.declared.class.Class.{Class}
-use Rattle.policy.specs.declared.class.Class.TheVariants.{Critical, NonCritical}
-use Rattle.policy.specs.declared.holds.Against.{Against}
+use Rattle.setup.specs.declared.class.Class.{Class}
+use Rattle.setup.specs.declared.class.Class.TheVariants.{Critical, NonCritical}
+use Rattle.policy.specs.FourNumbers.{Against}
 use Rattle.machine.specs.declared.held.Held.{Held}
 use Rattle.machine.specs.declared.op.Op.{Op}
 use Rattle.machine.specs.declared.op.Op.TheVariants.{Read, Write}

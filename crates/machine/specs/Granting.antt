@@ -1,7 +1,7 @@
 -- Steps 5 and 6 of a slot: what is in the way of the user's request, and whether it is granted.
 use Rattle.std.specs.Prelude.{ℕ, Bool, true, false, if◌then◌else◌, not, ◌&&◌, Option, ◌==◌}
-use Rattle.policy.specs.declared.class.Class.{Class}
-use Rattle.policy.specs.declared.class.Class.TheVariants.{Critical, NonCritical}
+use Rattle.setup.specs.declared.class.Class.{Class}
+use Rattle.setup.specs.declared.class.Class.TheVariants.{Critical, NonCritical}
 use Rattle.machine.specs.declared.held.Held.{Held}
 use Rattle.machine.specs.declared.op.Op.{Op}
 use Rattle.machine.specs.declared.op.Op.TheVariants.{Read, Write}

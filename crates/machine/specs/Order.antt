@@ -1,6 +1,6 @@
 -- Step 4 of a slot: the user's request takes its place in the order of its line.
 use Rattle.std.specs.Prelude.{ℕ, ◌&&◌}
-use Rattle.policy.specs.declared.class.Class.{Class}
+use Rattle.setup.specs.declared.class.Class.{Class}
 use Rattle.machine.specs.declared.request.Request.{Request}
 use Rattle.machine.specs.declared.request.Request.TheVariants.{Free, Asked, Ordered}
 use Rattle.machine.specs.declared.sizes.Sizes.{Sizes}

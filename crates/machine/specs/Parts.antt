@@ -1,7 +1,7 @@
 -- The parts of copies and requests.
 use Rattle.std.specs.Prelude.{ℕ, Bool, true, false, Some, None, Option, is_some, ◌==◌}
-use Rattle.policy.specs.FourNumbers.{against}
-use Rattle.policy.specs.declared.class.Class.{Class}
+use Rattle.setup.specs.Classes.{of_class}
+use Rattle.setup.specs.declared.class.Class.{Class}
 use Rattle.machine.specs.declared.op.Op.{Op}
 use Rattle.machine.specs.declared.op.Op.TheVariants.{Read, Write}
 use Rattle.machine.specs.declared.op.Role.{Role}
@@ -36,7 +36,7 @@ word_in (Some copy) = copy.word
 -- for how many slots it is still held against requesters of a class
 abbrev pub timer : Class → Option Held → ℕ
 timer c None = 0
-timer c (Some copy) = against copy.timers c
+timer c (Some copy) = of_class copy.timers c
 
 -- Requests ----------------------------------------------------------------------------------------
 

@@ -48,4 +48,4 @@ in_state state = Ok (State state)
 
 -- the bound in slots and in cycles
 abbrev pub bounded : ℕ → ℕ → Reply
-bounded slots cycles = Ok (Bound (record { count = slots }) (record { count = cycles }))
+bounded slots cycles = Ok (Bound slots cycles)

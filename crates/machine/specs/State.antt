@@ -1,8 +1,8 @@
 -- The state of a hub between two calls, and the class of a core. The sizes of the hub stand beside the state, as z.
 use Rattle.std.specs.Prelude.{ℕ, Bool, if◌then◌else◌, not, List, Option, nat_lt}
 use Rattle.policy.specs.Timing.{Timing}
-use Rattle.policy.specs.declared.class.Class.{Class}
-use Rattle.policy.specs.declared.class.Class.TheVariants.{Critical, NonCritical}
+use Rattle.setup.specs.declared.class.Class.{Class}
+use Rattle.setup.specs.declared.class.Class.TheVariants.{Critical, NonCritical}
 use Rattle.machine.specs.declared.held.Held.{Held}
 use Rattle.machine.specs.declared.request.Request.{Request}
 use Rattle.machine.specs.declared.sizes.Sizes.{Sizes}

@@ -1,6 +1,6 @@
 -- Step 1 of a slot: time passes for copies and requests.
 use Rattle.std.specs.Prelude.{ℕ, ◌+◌, ◌-◌, min, Option, option_map}
-use Rattle.policy.specs.declared.holds.Against.{Against}
+use Rattle.policy.specs.FourNumbers.{Against}
 use Rattle.machine.specs.declared.held.Held.{Held}
 use Rattle.machine.specs.declared.request.Request.{Request}
 use Rattle.machine.specs.declared.request.Request.TheVariants.{Free, Asked, Ordered}

@@ -1,8 +1,9 @@
 // What the calls of a hub answer.
 use crate::core_state::CoreState;
 use crate::op::Role;
-use setup::bound::{Cycles, Slots};
+use setup::cycles::Cycles;
 use setup::refusal::Refusal;
+use setup::slots::Slots;
 
 /// What an accepted ask answers.
 // No plainer as an option: `Some(word)` would not say that a copy served, nor `None` that the core waits.
@@ -40,7 +41,7 @@ pub enum SlotAnswer {
 }
 
 /// What a call that is not refused answers, whichever call it was.
-#[derive(Clone, Copy)]
+#[derive(Clone, Copy, Debug, PartialEq, Eq, Hash)]
 pub enum Answer {
     ToAsk(AskAnswer),
     ToSlot(SlotAnswer),

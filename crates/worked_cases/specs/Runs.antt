@@ -2,11 +2,10 @@
 use Rattle.std.specs.Prelude.{ℕ, ◌+◌, min, List, [], ◌∷◌, replicate}
 use Rattle.setup.specs.declared.draft.Draft.{Draft}
 use Rattle.setup.specs.declared.refusal.Refusal.TheVariants.{NoSuchCore, NoSuchLine, RequestPending}
-use Rattle.policy.specs.FourNumbers.{fixed}
+use Rattle.policy.specs.FourNumbers.{FourHolds, fixed}
 use Rattle.policy.specs.Timing.{Timing}
-use Rattle.policy.specs.declared.class.Class.{Class}
-use Rattle.policy.specs.declared.class.Class.TheVariants.{Critical, NonCritical}
-use Rattle.policy.specs.declared.holds.FourHolds.{FourHolds}
+use Rattle.setup.specs.declared.class.Class.{Class}
+use Rattle.setup.specs.declared.class.Class.TheVariants.{Critical, NonCritical}
 use Rattle.machine.specs.declared.call.Call.TheVariants.{Ask, Slot, Settle, WordOf, StateOf, BoundOf}
 use Rattle.machine.specs.declared.core_state.CoreState.TheVariants.{I, S, M, Sti, Mti, Isad, Isd, Imad, Imd}
 use Rattle.machine.specs.declared.op.Op.TheVariants.{Read, Write}
