@@ -7,8 +7,7 @@ ghost use Rattle.listing.specs.Lines.{answer, after};
 ghost use Rattle.run.specs.FirstLine.{hub_line, hub_of, first_line};
 ghost use Rattle.setup.specs.Refusals.{numbered};
 
-use listing::line::writing::write_line;
-use listing::line::{HubLine, Line};
+use listing::line::{HubLine, write_line};
 use memory::Memory;
 use policy::Policy;
 use policy::fixed::Fixed;
@@ -25,11 +24,7 @@ pub fn report<M: Memory>(file: &[u8], memory: &M, out: &mut [u8]) -> Result<usiz
     ensures placed { IfOk result (λ n. (n ≤ length out.new) × (take n out.new ≡ first_line file.now (length (M.Memory.words memory.now)) M.Memory.kind)) }
     ensures succeeds { 64 ≤ length out.old → is_ok result ≡ true }
 {
-    let line = match hub_of(file, memory) {
-        Ok(hub) => Line::Hub(hub),
-        Err(refusal) => Line::No(refusal),
-    };
-    write_line(out, line)
+    write_line(out, hub_of(file, memory))
 }
 
 fn hub_of<M: Memory>(file: &[u8], memory: &M) -> Result<HubLine, Refusal>
