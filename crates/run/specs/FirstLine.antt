@@ -37,3 +37,7 @@ hub_of file count memory =
 
 abbrev pub first_line : List ℕ → ℕ → ℕ → List ℕ
 first_line file count memory = text (hub_of file count memory)
+
+-- what the programs print: their hub stands on 32 lines of memory kind 3
+abbrev pub listing_of : List ℕ → List ℕ
+listing_of file = first_line file 32 3
