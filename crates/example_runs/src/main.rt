@@ -2,21 +2,9 @@
 // highest first, and then the file.
 #![tactic(auto)]
 
-use memory::word_table::WordTable;
-use run::report;
+use run::print_listing;
 use std::io;
-use std::io::{Read, Stdout, Write};
-use store::last_level::LastLevelStore;
-
-fn print_listing(file: &[u8], out: &mut Stdout) -> io::Result<()> {
-    let mut words = [0; 32];
-    let mut line = [0; 64];
-    let memory = LastLevelStore::over(WordTable::over(&mut words));
-    let Ok(n) = report(file, &memory, &mut line) else {
-        unreachable()
-    };
-    out.write_all(&line[0..n])
-}
+use std::io::{Read, Write};
 
 fn main(rt: HostRuntime) -> io::Result<()> {
     let mut packed = Vec::new(rt.alloc());

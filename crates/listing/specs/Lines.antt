@@ -1,9 +1,6 @@
 -- The text of each line of a listing, and the buffer that it is written to.
 use Rattle.std.specs.Prelude.{ℕ, cond, List, [], ◌∷◌, ◌++◌, length, drop, Ok, Err, codes, decimal, Result, nat_le}
-use Rattle.setup.specs.Refusals.{number}
 use Rattle.listing.specs.declared.line.HubLine.{HubLine}
-use Rattle.listing.specs.declared.line.Line.{Line}
-use Rattle.listing.specs.declared.line.Line.TheVariants.{Hub, No}
 
 -- a space and a number in decimal
 abbrev pub spaced : ℕ → List ℕ
@@ -18,9 +15,10 @@ hub_text h =
 abbrev pub no_text : ℕ → List ℕ
 no_text number = codes "NO" ++ spaced number ++ (10 ∷ [])
 
-abbrev pub text : Line → List ℕ
-text (Hub hub) = hub_text hub
-text (No refusal) = no_text (number refusal)
+-- the line of a hub, or of the number of a refusal
+abbrev pub text : Result HubLine ℕ → List ℕ
+text (Ok hub) = hub_text hub
+text (Err number) = no_text number
 
 -- what writing a line's text into a buffer answers
 abbrev pub answer : List ℕ → List ℕ → Result ℕ ℕ

@@ -5,10 +5,8 @@ use Rattle.setup.specs.Limits.{checking}
 use Rattle.setup.specs.declared.bound.Caps.{Caps}
 use Rattle.setup.specs.declared.draft.Draft.{Draft}
 use Rattle.policy.specs.FourNumbers.{caps_of}
-use Rattle.policy.specs.declared.holds.FourHolds.{FourHolds}
 use Rattle.runfile.specs.Head.{reading}
-use Rattle.runfile.specs.declared.head.Head.{Head}
-use Rattle.listing.specs.Lines.{hub_text, no_text}
+use Rattle.listing.specs.Lines.{text}
 use Rattle.listing.specs.declared.line.HubLine.{HubLine}
 
 -- the hub of a set-up, on a memory of a count and a kind and a policy of a kind and caps
@@ -25,22 +23,21 @@ hub_line d count memory policy caps =
       cycles = record { count = cycles d.width (bound d.critical caps) };
     }
 
--- a hub on four fixed holds, policy kind 1, and on a memory of a count and a kind
-abbrev of_draft : Result Draft ℕ → ℕ → ℕ → FourHolds → Result HubLine ℕ
-of_draft (Err n) count memory holds = Err n
-of_draft (Ok d) count memory holds = Ok (hub_line d count memory 1 (caps_of holds))
+-- one after the other, where the first was not refused
+abbrev and_then : {A B : Type 0} → Result A ℕ → (A → Result B ℕ) → Result B ℕ
+and_then (Err n) next = Err n
+and_then (Ok x) next = next x
 
-abbrev of_head : Result (Head × List ℕ) ℕ → ℕ → ℕ → Result HubLine ℕ
-of_head (Err n) count memory = Err n
-of_head (Ok p) count memory = of_draft (checking p.0.draft) count memory p.0.holds
-
--- the hub that a file asks for on such a memory, or a refusal's number
+-- the hub that a file asks for on a memory of a count and a kind, with policy kind 1, or a refusal's number
 abbrev pub hub_of : List ℕ → ℕ → ℕ → Result HubLine ℕ
-hub_of file count memory = of_head (reading file) count memory
-
-abbrev line_text : Result HubLine ℕ → List ℕ
-line_text (Err n) = no_text n
-line_text (Ok h) = hub_text h
+hub_of file count memory =
+    and_then (reading file) (λ p.
+    and_then (checking p.0.draft) (λ draft.
+    Ok (hub_line draft count memory 1 (caps_of p.0.holds))))
 
 abbrev pub first_line : List ℕ → ℕ → ℕ → List ℕ
-first_line file count memory = line_text (hub_of file count memory)
+first_line file count memory = text (hub_of file count memory)
+
+-- what the programs print: their hub stands on 32 lines of memory kind 3
+abbrev pub listing_of : List ℕ → List ℕ
+listing_of file = first_line file 32 3

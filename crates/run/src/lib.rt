@@ -2,20 +2,36 @@
 // the file's head asks for, with the bound of a critical wait, or the refusal.
 #![tactic(auto)]
 
-ghost use Rattle.std.specs.Prelude.{◌≡◌, ◌≤◌, true, length, take, is_ok, IfOk};
+ghost use Rattle.std.specs.Prelude.{◌≡◌, ◌≤◌, true, length, take, is_ok, IfOk, OnOk};
+ghost use Rattle.std.specs.Io.KnownBytes.{Appends};
 ghost use Rattle.listing.specs.Lines.{answer, after};
-ghost use Rattle.run.specs.FirstLine.{hub_line, hub_of, first_line};
+ghost use Rattle.run.specs.FirstLine.{hub_line, hub_of, first_line, listing_of};
 ghost use Rattle.setup.specs.Refusals.{numbered};
 
-use listing::line::writing::write_line;
-use listing::line::{HubLine, Line};
+use listing::line::{HubLine, write_line};
 use memory::Memory;
+use memory::word_table::WordTable;
 use policy::Policy;
 use policy::fixed::Fixed;
 use runfile::head::read_head;
 use setup::checked::SetUp;
 use setup::checked::checking::check;
 use setup::refusal::Refusal;
+use std::io;
+use std::io::Write;
+use store::last_level::LastLevelStore;
+
+// Prints the file's listing, for a hub on a last-level store over 32 words. An error is the writer's,
+// and then the writer may have taken a part of the listing.
+pub fn print_listing<W: Write>(file: &[u8], out: &mut W) -> io::Result<()>
+    ensures { OnOk result (Appends (W.contents out.old) (W.contents out.new) (listing_of file.now)) }
+{
+    let mut words = [0; 32];
+    let memory = LastLevelStore::over(WordTable::over(&mut words));
+    let mut line = [0; 64];
+    let n = report(file, &memory, &mut line).unwrap();
+    out.write_all(&line[..n])
+}
 
 // Writes the first line of the file's listing into the buffer, and answers its length. The hub would
 // stand on this memory, which is only looked at.
@@ -25,11 +41,7 @@ pub fn report<M: Memory>(file: &[u8], memory: &M, out: &mut [u8]) -> Result<usiz
     ensures placed { IfOk result (λ n. (n ≤ length out.new) × (take n out.new ≡ first_line file.now (length (M.Memory.words memory.now)) M.Memory.kind)) }
     ensures succeeds { 64 ≤ length out.old → is_ok result ≡ true }
 {
-    let line = match hub_of(file, memory) {
-        Ok(hub) => Line::Hub(hub),
-        Err(refusal) => Line::No(refusal),
-    };
-    write_line(out, line)
+    write_line(out, hub_of(file, memory))
 }
 
 fn hub_of<M: Memory>(file: &[u8], memory: &M) -> Result<HubLine, Refusal>

@@ -1,6 +1,7 @@
 // From run files to listings.
 use memory::word_table::WordTable;
-use run::report;
+use run::{print_listing, report};
+use setup::refusal::Refusal;
 use std::test::Fail;
 use store::last_level::LastLevelStore;
 
@@ -9,40 +10,44 @@ const LARGEST: [u8; 14] = [
     0x1f, 8, 8, 32, 255, 255, 255, 255, 255, 255, 255, 255, 255, 255,
 ];
 
-// The listing of a file on a memory of so many words begins with this line.
-fn prints_on(words: &mut [u64], file: &[u8], line: &[u8]) -> bool {
-    let mut out = [0; 64];
+// The first line of a file's listing, on a memory of these words.
+fn first_line<'a>(file: &[u8], words: &mut [u64], out: &'a mut [u8; 64]) -> &'a [u8] {
     let memory = LastLevelStore::over(WordTable::over(words));
-    match report(file, &memory, &mut out) {
-        Ok(n) => &out[0..n] == line,
-        Err(_) => false,
-    }
-}
-
-fn prints(file: &[u8], line: &[u8]) -> bool {
-    prints_on(&mut [0; 32], file, line)
+    let n = report(file, &memory, out).unwrap();
+    &out[..n]
 }
 
 #[test]
 fn hub_has_no_more_lines_than_its_memory(rt: HostRuntime) {
-    assert!(rt; prints_on(&mut [0; 3], &[0], b"HUB 4 2 3 50 3 1 11 550\n"));
+    let mut out = [0; 64];
+    assert_eq!(rt;
+        first_line(&[0], &mut [0; 3], &mut out),
+        b"HUB 4 2 3 50 3 1 11 550\n".as_slice()
+    );
 }
 
 #[test]
 fn heads_that_are_cut(rt: HostRuntime) {
-    let mut refused = true;
     // Cut before every byte; at 0 it is an empty file.
     for n in 0..LARGEST.len() {
-        refused &= prints(&LARGEST[0..n], b"NO 10\n");
+        let mut out = [0; 64];
+        let line = first_line(&LARGEST[..n], &mut [0; 32], &mut out);
+        assert_eq!(rt; line, b"NO 10\n".as_slice(), "cut before byte {n}");
     }
-    assert!(rt; refused);
 }
 
 #[test]
 fn files_at_the_limit_of_length(rt: HostRuntime) -> Result<(), Fail> {
     let file = vec![in rt.alloc(); 0; 65537]?;
-    let longest = prints(&file[0..65536], b"HUB 4 2 32 50 3 1 11 550\n");
-    assert!(rt; longest & prints(&file, b"NO 10\n"));
+    let mut out = [0; 64];
+    assert_eq!(rt;
+        first_line(&file[..65536], &mut [0; 32], &mut out),
+        b"HUB 4 2 32 50 3 1 11 550\n".as_slice()
+    );
+    assert_eq!(rt;
+        first_line(&file, &mut [0; 32], &mut out),
+        b"NO 10\n".as_slice()
+    );
     Ok(())
 }
 
@@ -50,9 +55,19 @@ fn files_at_the_limit_of_length(rt: HostRuntime) -> Result<(), Fail> {
 fn short_buffer_is_refused_and_stays(rt: HostRuntime) {
     let mut words = [0; 32];
     let mut out = [7; 63];
-    let refused = match report(&[0], &WordTable::over(&mut words), &mut out) {
-        Ok(_) => false,
-        Err(refusal) => refusal.number() == 11,
-    };
-    assert!(rt; refused & (out == [7; 63]));
+    let refused = report(&[0], &WordTable::over(&mut words), &mut out).map_err(Refusal::number);
+    assert_eq!(rt; refused, Err(11));
+    assert_eq!(rt; out, [7; 63]);
+}
+
+#[test]
+fn writer_with_too_little_room_fails(rt: HostRuntime) {
+    // The line has 25 bytes.
+    for (room, printed) in [(24, false), (25, true)] {
+        let mut out = [0; 25];
+        let mut writer = &mut out[..room];
+        let answer = print_listing(&[0], &mut writer);
+        assert_eq!(rt; answer.is_ok(), printed);
+        assert!(rt; b"HUB 4 2 32 50 3 1 11 550\n".starts_with(&out[..room]));
+    }
 }
