@@ -1,5 +1,5 @@
 -- The text of each line of a listing, and the buffer that it is written to.
-use Rattle.std.specs.Prelude.{ℕ, cond, List, [], ◌∷◌, ◌++◌, length, drop, Ok, Err, codes, decimal, Result, nat_le}
+use Rattle.std.specs.Prelude.{ℕ, if◌then◌else◌, List, [], ◌∷◌, ◌++◌, length, drop, Ok, Err, codes, decimal, Result, nat_le}
 use Rattle.listing.specs.declared.line.HubLine.{HubLine}
 
 -- a space and a number in decimal
@@ -10,7 +10,7 @@ spaced n = 32 ∷ decimal n
 abbrev pub hub_text : HubLine → List ℕ
 hub_text h =
     codes "HUB" ++ spaced h.cores ++ spaced h.critical ++ spaced h.lines ++ spaced h.width ++ spaced h.memory ++ spaced h.policy
-    ++ spaced h.bound.count ++ spaced h.cycles.count ++ (10 ∷ [])
+    ++ spaced h.bound ++ spaced h.cycles ++ (10 ∷ [])
 
 abbrev pub no_text : ℕ → List ℕ
 no_text number = codes "NO" ++ spaced number ++ (10 ∷ [])
@@ -22,8 +22,8 @@ text (Err number) = no_text number
 
 -- what writing a line's text into a buffer answers
 abbrev pub answer : List ℕ → List ℕ → Result ℕ ℕ
-answer old line = cond (nat_le 64 (length old)) (Ok (length line)) (Err 11)
+answer old line = if nat_le 64 (length old) then Ok (length line) else Err 11
 
 -- the buffer after it: the line, and behind it the bytes that stood there
 abbrev pub after : List ℕ → List ℕ → List ℕ
-after old line = cond (nat_le 64 (length old)) (line ++ drop (length line) old) old
+after old line = if nat_le 64 (length old) then line ++ drop (length line) old else old

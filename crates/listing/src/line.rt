@@ -6,30 +6,31 @@ ghost use Rattle.setup.specs.Refusals.{number, numbered};
 
 use arrayvec::ArrayString;
 use itoa::{Buffer, Integer};
-use setup::bound::{Cycles, Slots};
+use setup::cycles::Cycles;
+use setup::kind::Kind;
 use setup::refusal::Refusal;
+use setup::slots::Slots;
 
-// What the head line of a listing tells of a hub.
-#[derive(Clone, Copy)]
+/// What the head line of a listing tells of a hub.
+#[derive(Clone, Copy, Debug, PartialEq, Eq, Hash)]
 pub struct HubLine {
     pub cores: u8,
     pub critical: u8,
-    // The lines that the hub serves: as many as the set-up says and the memory has.
+    /// The lines that the hub serves: as many as the set-up says and the memory has.
     pub lines: u8,
     pub width: u16,
-    // The kind numbers of memory and policy.
-    pub memory: u8,
-    pub policy: u8,
-    // The bound of a critical wait.
+    pub memory: Kind,
+    pub policy: Kind,
+    /// The bound of a critical wait.
     pub bound: Slots,
     pub cycles: Cycles,
 }
 
-// The bytes that every line fits.
+/// The bytes that every line fits.
 const ROOM: usize = 64;
 
-// Writes the line of a hub, or of a refusal, to the front of the buffer, and answers its length. The
-// bytes after it stay as they were, and all of them where the buffer has fewer than 64.
+/// Writes the line of a hub, or of a refusal, to the front of the buffer, and answers its length. The
+/// bytes after it stay as they were, and all of them where the buffer has fewer than 64.
 pub fn write_line(out: &mut [u8], line: Result<HubLine, Refusal>) -> Result<usize, Refusal>
     ensures value { numbered result ≡ answer out.old (text (numbered line)) }
     ensures after { out.new ≡ after out.old (text (numbered line)) }
@@ -64,8 +65,8 @@ fn hub_text(hub: HubLine) -> ArrayString<ROOM>
     push_number(&mut text, hub.critical);
     push_number(&mut text, hub.lines);
     push_number(&mut text, hub.width);
-    push_number(&mut text, hub.memory);
-    push_number(&mut text, hub.policy);
+    push_number(&mut text, hub.memory.number());
+    push_number(&mut text, hub.policy.number());
     push_number(&mut text, hub.bound.count());
     push_number(&mut text, hub.cycles.count());
     text.push_str("\n");
@@ -82,7 +83,7 @@ fn no_text(refusal: Refusal) -> ArrayString<ROOM>
     text
 }
 
-// Appends a space and the number, for whose longest text there is room.
+/// Appends a space and the number, for whose longest text there is room.
 fn push_number<I: Integer>(line: &mut ArrayString<ROOM>, number: I)
     requires { array_string_len line.old + I.MAX_STR_LEN < ROOM }
     ensures bytes { line.new.bytes ≡ line.old.bytes ++ 32 ∷ I.text number }

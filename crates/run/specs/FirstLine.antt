@@ -1,8 +1,7 @@
 -- What the listing of a run file says first.
 use Rattle.std.specs.Prelude.{ℕ, min, List, Ok, Err, Result}
-use Rattle.setup.specs.Bound.{bound, cycles}
+use Rattle.setup.specs.Bound.{Caps, bound, cycles}
 use Rattle.setup.specs.Limits.{checking}
-use Rattle.setup.specs.declared.bound.Caps.{Caps}
 use Rattle.setup.specs.declared.draft.Draft.{Draft}
 use Rattle.policy.specs.FourNumbers.{caps_of}
 use Rattle.runfile.specs.Head.{reading}
@@ -19,8 +18,8 @@ hub_line d count memory policy caps =
       width = d.width;
       memory = memory;
       policy = policy;
-      bound = record { count = bound d.critical caps };
-      cycles = record { count = cycles d.width (bound d.critical caps) };
+      bound = bound d.critical caps;
+      cycles = cycles d.width (bound d.critical caps);
     }
 
 -- one after the other, where the first was not refused

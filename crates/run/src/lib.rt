@@ -15,14 +15,13 @@ use policy::Policy;
 use policy::fixed::Fixed;
 use runfile::head::read_head;
 use setup::checked::SetUp;
-use setup::checked::checking::check;
 use setup::refusal::Refusal;
 use std::io;
 use std::io::Write;
 use store::last_level::LastLevelStore;
 
-// Prints the file's listing, for a hub on a last-level store over 32 words. An error is the writer's,
-// and then the writer may have taken a part of the listing.
+/// Prints the file's listing, for a hub on a last-level store over 32 words. An error is the writer's,
+/// and then the writer may have taken a part of the listing.
 pub fn print_listing<W: Write>(file: &[u8], out: &mut W) -> io::Result<()>
     ensures { OnOk result (Appends (W.contents out.old) (W.contents out.new) (listing_of file.now)) }
 {
@@ -33,8 +32,8 @@ pub fn print_listing<W: Write>(file: &[u8], out: &mut W) -> io::Result<()>
     out.write_all(&line[..n])
 }
 
-// Writes the first line of the file's listing into the buffer, and answers its length. The hub would
-// stand on this memory, which is only looked at.
+/// Writes the first line of the file's listing into the buffer, and answers its length. The hub would
+/// stand on this memory, which is only looked at.
 pub fn report<M: Memory>(file: &[u8], memory: &M, out: &mut [u8]) -> Result<usize, Refusal>
     ensures value { numbered result ≡ answer out.old (first_line file.now (length (M.Memory.words memory.now)) M.Memory.kind) }
     ensures after { out.new ≡ after out.old (first_line file.now (length (M.Memory.words memory.now)) M.Memory.kind) }
@@ -48,14 +47,14 @@ fn hub_of<M: Memory>(file: &[u8], memory: &M) -> Result<HubLine, Refusal>
     ensures { numbered result ≡ hub_of file.now (length (M.Memory.words memory.now)) M.Memory.kind }
 {
     let (head, _) = read_head(file)?;
-    let setup = check(head.draft)?;
+    let setup = SetUp::try_from(head.draft)?;
     let mut policy = Fixed::of(head.holds);
     Ok(describe(&setup, memory, &mut policy))
 }
 
-// What a listing tells of a hub on this set-up, memory and policy.
+/// What a listing tells of a hub on this set-up, memory and policy.
 pub fn describe<M: Memory, P: Policy>(setup: &SetUp, memory: &M, policy: &mut P) -> HubLine
-    ensures value { result ≡ hub_line setup.now.draft (length (M.Memory.words memory.now)) M.Memory.kind P.Policy.kind (P.Policy.timing policy.old).caps }
+    ensures value { result ≡ hub_line setup.now (length (M.Memory.words memory.now)) M.Memory.kind P.Policy.kind (P.Policy.timing policy.old).caps }
     ensures policy { P.Policy.timing policy.new ≡ P.Policy.timing policy.old }
 {
     let lines = (setup.lines() as usize).min(memory.count());
