@@ -20,10 +20,8 @@ fn first_line<'a>(file: &[u8], words: &mut [u64], out: &'a mut [u8; 64]) -> &'a 
 #[test]
 fn hub_has_no_more_lines_than_its_memory(rt: HostRuntime) {
     let mut out = [0; 64];
-    assert_eq!(rt;
-        first_line(&[0], &mut [0; 3], &mut out),
-        b"HUB 4 2 3 50 3 1 11 550\n".as_slice()
-    );
+    let line = first_line(&[0], &mut [0; 3], &mut out);
+    assert!(rt; line == b"HUB 4 2 3 50 3 1 11 550\n".as_slice());
 }
 
 #[test]
@@ -32,7 +30,7 @@ fn heads_that_are_cut(rt: HostRuntime) {
     for n in 0..LARGEST.len() {
         let mut out = [0; 64];
         let line = first_line(&LARGEST[..n], &mut [0; 32], &mut out);
-        assert_eq!(rt; line, b"NO 10\n".as_slice(), "cut before byte {n}");
+        assert!(rt; line == b"NO 10\n".as_slice(), "cut before byte {n}");
     }
 }
 
@@ -40,14 +38,10 @@ fn heads_that_are_cut(rt: HostRuntime) {
 fn files_at_the_limit_of_length(rt: HostRuntime) -> Result<(), Fail> {
     let file = vec![in rt.alloc(); 0; 65537]?;
     let mut out = [0; 64];
-    assert_eq!(rt;
-        first_line(&file[..65536], &mut [0; 32], &mut out),
-        b"HUB 4 2 32 50 3 1 11 550\n".as_slice()
-    );
-    assert_eq!(rt;
-        first_line(&file, &mut [0; 32], &mut out),
-        b"NO 10\n".as_slice()
-    );
+    let line = first_line(&file[..65536], &mut [0; 32], &mut out);
+    assert!(rt; line == b"HUB 4 2 32 50 3 1 11 550\n".as_slice());
+    let line = first_line(&file, &mut [0; 32], &mut out);
+    assert!(rt; line == b"NO 10\n".as_slice());
     Ok(())
 }
 
@@ -56,8 +50,8 @@ fn short_buffer_is_refused_and_stays(rt: HostRuntime) {
     let mut words = [0; 32];
     let mut out = [7; 63];
     let refused = report(&[0], &WordTable::over(&mut words), &mut out).map_err(Refusal::number);
-    assert_eq!(rt; refused, Err(11));
-    assert_eq!(rt; out, [7; 63]);
+    assert!(rt; refused == Err(11));
+    assert!(rt; out == [7; 63]);
 }
 
 #[test]
@@ -67,7 +61,7 @@ fn writer_with_too_little_room_fails(rt: HostRuntime) {
         let mut out = [0; 25];
         let mut writer = &mut out[..room];
         let answer = print_listing(&[0], &mut writer);
-        assert_eq!(rt; answer.is_ok(), printed);
+        assert!(rt; answer.is_ok() == printed);
         assert!(rt; b"HUB 4 2 32 50 3 1 11 550\n".starts_with(&out[..room]));
     }
 }
