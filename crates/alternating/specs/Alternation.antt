@@ -1,5 +1,5 @@
 -- Kind 3: two sets of holds that rule in turn.
-use Rattle.std.specs.Prelude.{ℕ, ◌+◌, ◌%◌, ◌≤◌, max, cond, nat_lt}
+use Rattle.std.specs.Prelude.{ℕ, ◌+◌, ◌%◌, ◌≤◌, max, if◌then◌else◌, nat_lt}
 use Rattle.setup.specs.Bound.{Caps}
 use Rattle.policy.specs.FourNumbers.{FourHolds, number, caps_of, Few, FewHolds}
 use Rattle.policy.specs.Timing.{Timing}
@@ -15,7 +15,7 @@ abbrev pub span : Schedule → ℕ
 span s = s.first.slots + s.second.slots
 
 abbrev pub in_turn : Schedule → ℕ → FourHolds
-in_turn s slot = cond (nat_lt (slot % span s) s.first.slots) s.first.holds s.second.holds
+in_turn s slot = if nat_lt (slot % span s) s.first.slots then s.first.holds else s.second.holds
 
 abbrev pub alternating : Schedule → Timing
 alternating s =
@@ -26,10 +26,10 @@ alternating s =
 
 -- the set that rules now, where `at` lies within the two spells, and the schedule one slot on
 abbrev pub ruling : Schedule → FourHolds
-ruling s = cond (nat_lt s.at s.first.slots) s.first.holds s.second.holds
+ruling s = if nat_lt s.at s.first.slots then s.first.holds else s.second.holds
 
 abbrev pub advanced : Schedule → Schedule
-advanced s = record { first = s.first; second = s.second; at = (s.at + 1) % span s }
+advanced s = record s { at = (s.at + 1) % span s }
 
 -- spells have at least one slot, and the first begins
 abbrev pub spell : FourHolds → ℕ → Spell

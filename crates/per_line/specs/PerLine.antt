@@ -1,5 +1,5 @@
 -- Kind 2: four numbers for each line from a table, cut to given caps.
-use Rattle.std.specs.Prelude.{ℕ, ◌+◌, ◌*◌, ◌/◌, cond, List, length, nat_lt, slice_index}
+use Rattle.std.specs.Prelude.{ℕ, ◌+◌, ◌*◌, ◌/◌, if◌then◌else◌, List, length, nat_lt, slice_index}
 use Rattle.setup.specs.Bound.{Caps}
 use Rattle.policy.specs.FourNumbers.{FourHolds, number, Few}
 use Rattle.policy.specs.OwnCaps.{cut}
@@ -11,12 +11,12 @@ none = record { critical = record { critical = 0; noncritical = 0 }; noncritical
 
 abbrev pub line_holds : List ℕ → ℕ → FourHolds
 line_holds table line =
-    cond (nat_lt line (length table / 4))
-    (record {
+    if nat_lt line (length table / 4)
+    then record {
       critical = record { critical = slice_index table (4 * line); noncritical = slice_index table (4 * line + 1) };
       noncritical = record { critical = slice_index table (4 * line + 2); noncritical = slice_index table (4 * line + 3) };
-    })
-    none
+    }
+    else none
 
 abbrev pub per_line : List ℕ → Caps → Timing
 per_line table caps =

@@ -4,7 +4,7 @@ use Rattle.std.proofs.lemmas.List.FromFn.{length-map-range_with_len, get_or-map-
 use Rattle.std.proofs.lemmas.List.{length-set, get_or-set_same, get_or-set_other, ext_get_or, get_or-replicate, set_past, set-get_or}
 use Rattle.std.proofs.lemmas.Bool.{cases_eq, cases_lt, eq-eqb, ne_eqb, eqb-true, cond-true, cond-false, cond_above, cond_below, cond_both}
 use Rattle.memory.specs.Words.{reading, storing, stored}
-use Rattle.memory.proofs.Answered.{reading_at, storing_at, storing_past, stored_at, stored_past}
+use Rattle.store.proofs.Answered.{reading_at, storing_at, storing_past, stored_at, stored_past}
 use mir.Val.{bool_byte}
 use Rattle.setup.specs.Refusals.{numbered}
 use Rattle.setup.specs.declared.refusal.Refusal.{Refusal}

@@ -1,5 +1,5 @@
 -- A last-level store: sixteen places over a memory below it.
-use Rattle.std.specs.Prelude.{◌≡◌, ℕ, zero, suc, ◌+◌, ◌%◌, ◌<◌, Bool, true, cond, List, map, length, Some, None, Option, ◌==◌, nat_lt, slice_index, slice_index_or, slice_set}
+use Rattle.std.specs.Prelude.{◌≡◌, ℕ, zero, suc, ◌+◌, ◌%◌, ◌<◌, Bool, true, if◌then◌else◌, List, map, length, Some, None, Option, ◌==◌, nat_lt, slice_index, slice_index_or, slice_set}
 use Rattle.memory.specs.Words.{stored}
 use Rattle.std.specs.List.{range_with_len}
 use Rattle.std.specs.Option.{unwrap_or}
@@ -20,7 +20,7 @@ place_of line = line % 16
 -- the word that a place holds of a line, if it does
 abbrev pub held_word : Place → ℕ → Option ℕ
 held_word None line = None
-held_word (Some h) line = cond (h.line == line) (Some h.word) None
+held_word (Some h) line = if h.line == line then Some h.word else None
 
 -- the word of a line, where its place is as given and the memory below has w
 abbrev pub laid : Place → ℕ → ℕ → ℕ
@@ -46,19 +46,19 @@ released ws (Some h) = stored ws h.line h.word
 -- the same, to make room for a line
 abbrev pub displaced : List ℕ → Place → ℕ → List ℕ
 displaced ws None line = ws
-displaced ws (Some h) line = cond (h.line == line) ws (released ws (Some h))
+displaced ws (Some h) line = if h.line == line then ws else released ws (Some h)
 
 -- after a store to a line: the words below, and the places
 abbrev pub below_after : List ℕ → List Place → ℕ → List ℕ
-below_after ws ps line = cond (nat_lt line (length ws)) (displaced ws (slice_index_or ps (place_of line) None) line) ws
+below_after ws ps line = if nat_lt line (length ws) then displaced ws (slice_index_or ps (place_of line) None) line else ws
 
 abbrev pub places_after : List ℕ → List Place → ℕ → ℕ → List Place
-places_after ws ps line word = cond (nat_lt line (length ws)) (slice_set ps (place_of line) (holds line word)) ps
+places_after ws ps line word = if nat_lt line (length ws) then slice_set ps (place_of line) (holds line word) else ps
 
 -- how many words a place has for a memory of that count
 abbrev pub held : ℕ → Place → ℕ
 held count None = 0
-held count (Some h) = cond (nat_lt h.line count) 1 0
+held count (Some h) = if nat_lt h.line count then 1 else 0
 
 -- how many the first n places have
 abbrev pub held_in : ℕ → List Place → ℕ → ℕ

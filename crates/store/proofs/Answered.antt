@@ -6,9 +6,6 @@ use Rattle.memory.specs.Words.{reading, storing, stored}
 pub reading_at : (ws : List ℕ) (line w : ℕ) → line < length ws → w ≡ get_or ws line 0 → Ok w ≡ reading ws line
 reading_at ws line w h e = ap Ok e ∙ cond_below line (length ws) _ _ h
 
-pub reading_past : (ws : List ℕ) (line : ℕ) → length ws ≤ line → Err 9 ≡ reading ws line
-reading_past ws line h = cond_above line (length ws) _ _ _ h refl
-
 pub storing_at : (ws : List ℕ) (line : ℕ) → line < length ws → Ok tt ≡ storing ws line
 storing_at ws line h = cond_below line (length ws) _ _ h
 
