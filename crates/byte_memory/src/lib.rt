@@ -15,6 +15,7 @@ pub struct ByteTable<'a> {
     bytes: &'a mut [u8],
 }
 
+// Not by `as_chunks_mut`, whose clauses do not say what the slice ends as.
 fn put_word_at(bytes: &mut [u8], line: usize, word: u64)
     requires { 8 * line + 8 ≤ length bytes.old }
     ensures { bytes.new ≡ put_word bytes.old line word }

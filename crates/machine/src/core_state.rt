@@ -27,6 +27,7 @@ pub enum CoreState {
 impl CoreState {
     ghost use Rattle.machine.specs.CoreState.{code_of};
 
+    // No plainer as `u8::from(state)`, which would not say which number.
     pub fn code(self) -> u8
         ensures { result ≡ code_of self }
     {

@@ -20,6 +20,8 @@ pub trait Memory {
 
     ghost words: { Self → List ℕ };
 
+    // Each impl answers its `KIND`, all by the same body: the checker does not tie a constant to a ghost member
+    // where an impl has a lifetime, so that no body here could be proved for all (tried).
     fn kind_number(&self) -> Kind
         ensures { result ≡ kind };
 

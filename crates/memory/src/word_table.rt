@@ -59,6 +59,7 @@ impl Memory for WordTable<'_> {
         ensures refused { length self.old.table.now ≤ line → self.new ≡ self.old }
         ensures place { self.new.table.ghost_name ≡ self.old.table.ghost_name }
     {
+        // By `get_mut` the proof did not close: what is written through `self.table` was not carried back.
         if line < self.table.len() {
             self.table[line] = word;
             Ok(())

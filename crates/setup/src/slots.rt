@@ -7,6 +7,7 @@ use crate::cycles::Cycles;
 use std::marker::Model;
 
 /// A count of slots, of a type of its own, so that it is not taken for one of cycles.
+// Two types beside each other, not one over its unit: a rule of the project, for the conversion alone to join them.
 #[derive(Clone, Copy, Debug, PartialEq, Eq, Hash, PartialOrd, Ord)]
 pub struct Slots {
     pub(crate) count: u32,

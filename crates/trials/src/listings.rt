@@ -26,7 +26,7 @@ fn hub_has_no_more_lines_than_its_memory(rt: HostRuntime) {
 
 #[test]
 fn heads_that_are_cut(rt: HostRuntime) {
-    // Cut before every byte; at 0 it is an empty file.
+    // Cut before every byte; at 0 it is an empty file. n is a length, and no index of an element.
     for n in 0..LARGEST.len() {
         let mut out = [0; 64];
         let line = first_line(&LARGEST[..n], &mut [0; 32], &mut out);
