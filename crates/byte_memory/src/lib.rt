@@ -49,7 +49,7 @@ impl Memory for ByteTable<'_> {
 
     ghost kind = { 2 };
 
-    ghost words = { λ memory. words memory.bytes.now };
+    ghost words = { λ m. words m.bytes.now };
 
     fn kind_number(&self) -> Kind {
         <Self as Memory>::KIND

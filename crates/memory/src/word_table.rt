@@ -36,7 +36,7 @@ impl Memory for WordTable<'_> {
 
     ghost kind = { 1 };
 
-    ghost words = { λ memory. memory.table.now };
+    ghost words = { λ m. m.table.now };
 
     fn kind_number(&self) -> Kind {
         <Self as Memory>::KIND
