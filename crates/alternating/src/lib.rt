@@ -90,6 +90,7 @@ impl Policy for Alternating {
         first.zip_with(second, u16::max)
     }
 
+    #[tactic(auto, using(crate::proofs::Turns::ruling_now))]
     fn holds(&mut self, core: usize, class: Class, line: usize) -> (u16, u16)
         ensures critical { result.0 ≡ (alternating self.old.schedule).hold 0 core class line Critical }
         ensures noncritical { result.1 ≡ (alternating self.old.schedule).hold 0 core class line NonCritical }
@@ -98,6 +99,7 @@ impl Policy for Alternating {
         self.ruling().of(class).into()
     }
 
+    #[tactic(auto, using(crate::proofs::Turns::alternating_later))]
     fn slot_passed(&mut self) {
         self.advance();
     }

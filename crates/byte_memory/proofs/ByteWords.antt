@@ -3,7 +3,6 @@ use Rattle.std.proofs.Common.{◌≡◌, ℕ, ◌+◌, ◌-◌, ◌*◌, ◌/◌
 use Rattle.std.proofs.lemmas.List.FromFn.{length-map-range_with_len, get_or-map-range_with_len}
 use Rattle.std.proofs.lemmas.List.{length-set, get_or-set_same, get_or-set_other, length-append, length-take, length-drop, length-take-le, get_or_append_left, get_or-append_right, get_or-take, get_or-drop, ext_get_or}
 use Rattle.std.proofs.lemmas.Bool.{cases_eq, cases_lt}
-use Rattle.std.specs.Int.{w64, from_be_bytes}
 use Rattle.std.specs.List.{slice_get}
 use Rattle.std.proofs.lemmas.Option.{slice_get-get_or}
 use Rattle.std.specs.Simd.{first_chunks}
@@ -17,21 +16,17 @@ pub get_or_words : (bs : List ℕ) (k : ℕ) → k < length bs / 8 → get_or (w
 get_or_words bs k h = get_or-map-range_with_len (word bs) 0 (length bs / 8) k k 0 h (omega arith)
 
 -- the eight bytes from 8 * line on, taken as a row of eight, say the word of the line
-row_word : (bs digits : List ℕ) (line : ℕ) → line < length bs / 8 → digits ≡ get_or (first_chunks 8 (length bs / 8) bs) line digits
-    → from_be_bytes w64 digits ≡ word bs line
-row_word bs digits line inside row =
+pub word_got : (bs digits : List ℕ) (line : ℕ) → line < length bs / 8 → digits ≡ get_or (first_chunks 8 (length bs / 8) bs) line digits
+    → slice_get (words bs) line ≡ Some (eight digits 0)
+word_got bs digits line inside row =
     let byte : (j : ℕ) → j < 8 → get_or digits j 0 ≡ get_or bs (8 * line + j) 0 = λ j within.
     let place : line * 8 + j ≡ 8 * line + j = omega arith in
     ap (λ ds. get_or ds j 0) row ∙ (number_at 8 (length bs / 8) line j bs digits inside within ∙ ap (λ m. get_or bs m 0) place) in
     let start : 8 * line + 0 ≡ 8 * line = omega arith in
     let first : get_or digits 0 0 ≡ get_or bs (8 * line) 0 = byte 0 (omega arith) ∙ ap (λ m. get_or bs m 0) start in
-    omega (arith, first, byte 1 (omega arith), byte 2 (omega arith), byte 3 (omega arith), byte 4 (omega arith), byte 5 (omega arith), byte 6 (omega arith), byte 7 (omega arith))
-
-pub word_got : (bs digits : List ℕ) (line n : ℕ) → line < length bs / 8 → digits ≡ get_or (first_chunks 8 (length bs / 8) bs) line digits
-    → n ≡ from_be_bytes w64 digits → slice_get (words bs) line ≡ Some n
-word_got bs digits line n inside row said =
-    slice_get-get_or (words bs) line 0 (omega (arith, length_words bs))
-    ∙ ap Some (get_or_words bs line inside ∙ sym (said ∙ row_word bs digits line inside row))
+    let same : word bs line ≡ eight digits 0 =
+    omega (arith, first, byte 1 (omega arith), byte 2 (omega arith), byte 3 (omega arith), byte 4 (omega arith), byte 5 (omega arith), byte 6 (omega arith), byte 7 (omega arith)) in
+    slice_get-get_or (words bs) line 0 (omega (arith, length_words bs)) ∙ ap Some (get_or_words bs line inside ∙ same)
 
 -- the eight bytes of a word say the word
 digits_word : (w : ℕ) → w < 2 ^ 64 → w / 256 ^ 7 % 256 * 256 ^ 7 + w / 256 ^ 6 % 256 * 256 ^ 6 + w / 256 ^ 5 % 256 * 256 ^ 5 + w / 256 ^ 4 % 256 * 256 ^ 4

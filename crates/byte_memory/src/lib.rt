@@ -2,7 +2,7 @@
 #![tactic(auto)]
 
 ghost use Rattle.std.specs.Prelude.{◌≡◌, ◌+◌, ◌*◌, ◌/◌, ◌<◌, ◌≤◌, length, slice_get};
-ghost use Rattle.byte_memory.specs.Bytes.{put_word, words};
+ghost use Rattle.byte_memory.specs.Bytes.{eight, put_word, words};
 ghost use Rattle.memory.specs.Words.{reading, storing, stored};
 ghost use Rattle.setup.specs.Refusals.{numbered};
 
@@ -13,6 +13,13 @@ use setup::refusal::Refusal;
 #[derive(Debug, Drop)]
 pub struct ByteTable<'a> {
     bytes: &'a mut [u8],
+}
+
+/// The word that eight bytes say.
+fn word_of(digits: &[u8; 8]) -> u64
+    ensures { result ≡ eight digits.now 0 }
+{
+    u64::from_be_bytes(*digits)
 }
 
 // Not by `as_chunks_mut`, whose clauses do not say what the slice ends as.
@@ -35,12 +42,12 @@ impl<'a> ByteTable<'a> {
     }
 
     /// The word of a line, if there is such a line.
+    #[tactic(auto, using(crate::proofs::ByteWords::length_words, crate::proofs::ByteWords::word_got, std::proofs::lemmas::Option::slice_get_past))]
     fn word(&self, line: usize) -> Option<u64>
         ensures { result ≡ slice_get (words self.now.bytes.now) line }
     {
         let (words, _) = self.bytes.as_chunks::<8>();
-        let digits = words.get(line)?;
-        Some(u64::from_be_bytes(*digits))
+        Some(word_of(words.get(line)?))
     }
 }
 
@@ -55,6 +62,7 @@ impl Memory for ByteTable<'_> {
         <Self as Memory>::KIND
     }
 
+    #[tactic(auto, using(crate::proofs::ByteWords::length_words))]
     fn count(&self) -> usize
         ensures value { result ≡ length (words self.now.bytes.now) }
         ensures eighth { result ≡ length self.now.bytes.now / 8 }
@@ -69,6 +77,7 @@ impl Memory for ByteTable<'_> {
         self.word(line).ok_or(Refusal::PastMemory)
     }
 
+    #[tactic(auto, using(crate::proofs::ByteWords::length_words, crate::proofs::ByteWords::words_put))]
     fn store(&mut self, line: usize, word: u64) -> Result<(), Refusal>
         ensures value { numbered result ≡ storing (words self.old.bytes.now) line }
         ensures after { words self.new.bytes.now ≡ stored (words self.old.bytes.now) line word }

@@ -23,6 +23,7 @@ pub struct PerLine<'a> {
 }
 
 /// The four holds of a line, or none where the table has not all four.
+#[tactic(auto, using(setup::proofs::Rows::number_at))]
 fn holds_of(table: &[u16], line: usize) -> FourHolds
     ensures { result ≡ line_holds table.now line }
 {
