@@ -1,6 +1,6 @@
-use Rattle.std.proofs.Common.{rules}
-use Rattle.store.proofs.Laid.{length_overlaid}
+use Rattle.std.proofs.Common.{arith}
+use Rattle.std.proofs.lemmas.List.FromFn.{length-map-range_with_len}
 use Rattle.store.proofs.last_level.LastLevelStoreMemory.count.Goals as goal
 
-pub returns-clause-value : goal.returns-clause-value
-returns-clause-value g c = search (rules, length_overlaid)
+pub returns : goal.returns
+returns g c = grind (arith, length-map-range_with_len)
