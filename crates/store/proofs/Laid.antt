@@ -6,6 +6,9 @@ use Rattle.std.proofs.lemmas.Grind.{common_steps}
 use Rattle.memory.specs.Words.{stored}
 use Rattle.store.specs.Overlay.{Place, holds, laid, overlaid, Placed, displaced}
 
+pub length_overlaid : (ws : List ℕ) (ps : List Place) → length (overlaid ws ps) ≡ length ws
+length_overlaid ws ps = length-map-range_with_len _ 0 (length ws)
+
 -- the word of a line is its place's, or else the one below
 pub get_or_overlaid : (ws : List ℕ) (ps : List Place) (n : ℕ) → n < length ws → get_or (overlaid ws ps) n 0 ≡ laid (get_or ps (n % 16) None) n (get_or ws n 0)
 get_or_overlaid ws ps n inside = get_or-map-range_with_len _ 0 (length ws) n n 0 inside (omega arith)
@@ -14,7 +17,7 @@ get_or_overlaid ws ps n inside = get_or-map-range_with_len _ 0 (length ws) n n 0
 pub overlaid_is : (ws vs : List ℕ) (ps : List Place) → length ws ≡ length vs
     → ((k : ℕ) → k < length ws → laid (get_or ps (k % 16) None) k (get_or ws k 0) ≡ get_or vs k 0) → overlaid ws ps ≡ vs
 overlaid_is ws vs ps size same =
-    ext_get_or 0 _ _ (length-map-range_with_len _ 0 (length ws) ∙ size) (λ k inside. grind (arith, length-map-range_with_len, get_or_overlaid, same k))
+    ext_get_or 0 _ _ (length_overlaid ws ps ∙ size) (λ k inside. grind (arith, length_overlaid, get_or_overlaid, same k))
 
 -- with all places free the store means the words below
 pub overlaid_free : (ws : List ℕ) → overlaid ws (replicate 16 None) ≡ ws
@@ -24,5 +27,5 @@ overlaid_free ws = overlaid_is ws ws (replicate 16 None) refl (λ k inside. grin
 pub overlaid_stored : (ws : List ℕ) (ps : List Place) (line word : ℕ) → line < length ws → length ps ≡ 16 → Placed ps
     → overlaid (displaced ws (get_or ps (line % 16) None) line) (set ps (line % 16) (holds line word)) ≡ stored (overlaid ws ps) line word
 overlaid_stored ws ps line word inside sixteen fit =
-    overlaid_is _ _ _ (grind (arith, length-map-range_with_len, length-set))
-    (λ k within. grind (arith, common_steps, length-map-range_with_len, get_or_overlaid))
+    overlaid_is _ _ _ (grind (arith, length_overlaid, length-set))
+    (λ k within. grind (arith, common_steps, length_overlaid, get_or_overlaid))

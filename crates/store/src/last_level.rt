@@ -27,6 +27,7 @@ impl<M: Memory> LastLevelStore<M> {
     ghost use Rattle.store.specs.Overlay.{place_of, held_word, displaced, held, held_in, released};
 
     /// A store with all places free, which means what the memory below means.
+    #[tactic(auto, using(crate::proofs::Laid::overlaid_free))]
     pub fn over(below: M) -> Self
         ensures kind { ⟦<Self as Memory>⟧.kind ≡ 3 }
         ensures words { ⟦<Self as Memory>⟧.words result ≡ M.Memory.words below }
@@ -114,6 +115,7 @@ impl<M: Memory> Memory for LastLevelStore<M> {
         LAST_LEVEL
     }
 
+    #[tactic(auto, using(crate::proofs::Laid::length_overlaid))]
     fn count(&self) -> usize
         ensures value { result ≡ length (words_of M.Memory.words self.now) }
         ensures below { result ≡ length (words_below M.Memory.words self.now) }
@@ -121,6 +123,7 @@ impl<M: Memory> Memory for LastLevelStore<M> {
         self.count_below()
     }
 
+    #[tactic(auto, using(crate::proofs::Laid::length_overlaid, crate::proofs::Laid::get_or_overlaid))]
     fn read(&mut self, line: usize) -> Result<u64, Refusal>
         ensures value { numbered result ≡ reading (words_of M.Memory.words self.old) line }
         ensures same { words_of M.Memory.words self.new ≡ words_of M.Memory.words self.old }
@@ -137,6 +140,7 @@ impl<M: Memory> Memory for LastLevelStore<M> {
         }
     }
 
+    #[tactic(auto, using(crate::proofs::Laid::length_overlaid, crate::proofs::Laid::overlaid_stored))]
     fn store(&mut self, line: usize, word: u64) -> Result<(), Refusal>
         ensures value { numbered result ≡ storing (words_of M.Memory.words self.old) line }
         ensures after { words_of M.Memory.words self.new ≡ stored (words_of M.Memory.words self.old) line word }
