@@ -38,6 +38,14 @@ fitting i (Some h) = place_of h.line == i
 abbrev pub Placed : List Place → Type 0
 Placed ps = (i : ℕ) → i < 16 → fitting i (slice_index_or ps i None) ≡ true
 
+-- a place is free, or has the word of a line below the count
+abbrev pub known : ℕ → Place → Bool
+known count None = true
+known count (Some h) = nat_lt h.line count
+
+abbrev pub Known : ℕ → List Place → Type 0
+Known count ps = (i : ℕ) → i < 16 → known count (slice_index_or ps i None) ≡ true
+
 -- the words below once the place's word has gone there
 abbrev pub released : List ℕ → Place → List ℕ
 released ws None = ws

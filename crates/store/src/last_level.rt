@@ -1,6 +1,6 @@
 // Sixteen places over a memory below; a line's number modulo 16 is that of its place. A place is taken
 // by a store to a line, and the word that was there goes below.
-ghost use Rattle.store.specs.Overlay.{Placed};
+ghost use Rattle.store.specs.Overlay.{Placed, Known};
 ghost use Rattle.std.specs.Prelude.{◌≡◌, length};
 
 use crate::place::{HeldWord, Place};
@@ -19,10 +19,11 @@ pub struct LastLevelStore<M: Memory> {
     places: [Place; 16],
     ghost sixteen: { length places ≡ 16 },
     ghost fitting: { Placed places },
+    ghost inside: { Known (length (M.Memory.words below)) places },
 }
 
 impl<M: Memory> LastLevelStore<M> {
-    ghost use Rattle.std.specs.Prelude.{◌≡◌, length, replicate, None, slice_index_or};
+    ghost use Rattle.std.specs.Prelude.{◌≡◌, length, replicate, count_by, is_some, None, slice_index_or};
     ghost use Rattle.store.specs.Meaning.{words_of, words_below};
     ghost use Rattle.store.specs.Overlay.{place_of, held_word, displaced, held, held_in, released};
 
@@ -42,8 +43,10 @@ impl<M: Memory> LastLevelStore<M> {
     }
 
     /// Sends all held words below, so that all places are free, and answers how many there were.
+    #[tactic(auto, using(crate::proofs::Laid::held_in_all))]
     pub fn clean(&mut self) -> u32
         ensures value { result ≡ held_in (length (words_below M.Memory.words self.old)) self.old.places 16 }
+        ensures all { result ≡ count_by is_some self.old.places }
         ensures meaning { words_of M.Memory.words self.new ≡ words_of M.Memory.words self.old }
         ensures below { words_below M.Memory.words self.new ≡ words_of M.Memory.words self.old }
         ensures places { self.new.places ≡ replicate 16 None }
