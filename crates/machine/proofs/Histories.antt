@@ -4,7 +4,8 @@ use Rattle.policy.specs.Timing.{Lawful}
 use Rattle.machine.specs.History.{Start, sizes, Event, History, From, begun, called}
 use Rattle.machine.specs.Machine.{step}
 use Rattle.machine.specs.State.{State}
-use Rattle.machine.proofs.Limits.{Limits, limits}
+use Rattle.setup.specs.Limits.{KeepsLimits}
+use Rattle.machine.proofs.Limits.{limits}
 
 pub record Earlier (b : Start) (e : Event) (h : History) (s : State) : Type 0 where
   pub state : State
@@ -20,7 +21,7 @@ cut b [] h s f = (s, f)
 cut b (e ∷ later) h s f = let u = earlier b f in cut b later h u.state u.from
 
 -- every hub was started on a set-up within its limits and on a lawful policy
-pub limits_from : (b : Start) {h : History} {s : State} → From b h s → Limits b.setup
+pub limits_from : (b : Start) {h : History} {s : State} → From b h s → KeepsLimits b.setup
 limits_from b (begun k f) = limits b.setup k
 limits_from b (called c f) = limits_from b f
 

@@ -26,7 +26,8 @@ use Rattle.machine.proofs.Asks.{ask_accepted, accepted_all, unless_same}
 use Rattle.machine.proofs.Counting.{never, put_all}
 use Rattle.machine.proofs.Due.{Due, due_map}
 use Rattle.machine.proofs.Histories.{limits_from, lawful_from}
-use Rattle.machine.proofs.Limits.{Limits, limits}
+use Rattle.setup.specs.Limits.{KeepsLimits}
+use Rattle.machine.proofs.Limits.{limits}
 use Rattle.machine.proofs.Queues.{queues_none}
 use Rattle.machine.proofs.Ready.{timers, seats, OverIn, Fit, gap, Ready}
 use Rattle.machine.proofs.ReadySlot.{ready_slot}
@@ -114,13 +115,13 @@ module _ (z : Sizes) (caps : Caps) (fit : Fit z caps) where
 fit_from : (b : Start) {h : History} {s : State} → From b h s → Fit (sizes b) b.timing.caps
 fit_from b f =
     let k = limits_from b f in
-    record { some_critical = k.some_critical; few_critical = k.few_critical; some_caps = (lawful_from b f).some_cap }
+    record { some_critical = k.critical.0; few_critical = k.critical.1; some_caps = (lawful_from b f).some_cap }
 
 ready_from : (b : Start) {h : History} {s : State} → From b h s → Ready (sizes b) b.timing.caps 1 s
 ready_from b (begun k f) =
     let d = limits b.setup k in
     record {
-      in_turn = record { owner_critical = d.some_critical; mark_low = omega arith; mark_high = d.few_critical };
+      in_turn = record { owner_critical = d.critical.0; mark_low = omega arith; mark_high = d.critical.1 };
       timed = record { lawful = f; same_caps = refl };
       capped = λ l j. omega arith;
       queues = queues_none b.setup.critical b.setup.cores;
@@ -146,11 +147,11 @@ wait_below b {h} {s} f i a t = go (s.requests i) t ((ready_from b f).due i a)
     go (Ordered l o a w) t x = omega (arith, x.in_time)
 
 -- .. so that no wait count stops short of it
-pub bound_small : (b : Start) → Limits b.setup → Lawful b.timing → longest_wait b < 4294967295
+pub bound_small : (b : Start) → KeepsLimits b.setup → Lawful b.timing → longest_wait b < 4294967295
 bound_small b k f =
     let c : ℕ = b.setup.critical in
     let hc : ℕ = b.timing.caps.critical in
-    let few : c - 1 ≤ 7 = omega (arith, k.few_critical, k.few_cores) in
-    let short : hc + c - 1 ≤ 65542 = omega (arith, few, f.few_cap Critical, k.some_critical) in
+    let few : c - 1 ≤ 7 = omega (arith, k.critical.1, k.cores.1) in
+    let short : hc + c - 1 ≤ 65542 = omega (arith, few, f.few_cap Critical, k.critical.0) in
     let product : (c - 1) * (hc + c - 1) ≤ 7 * 65542 = mul-le-mul few short in
-    omega (arith, product, k.few_critical, k.few_cores, f.few_cap Critical, f.few_cap NonCritical)
+    omega (arith, product, k.critical.1, k.cores.1, f.few_cap Critical, f.few_cap NonCritical)
