@@ -1,26 +1,21 @@
--- The turns of an alternating policy, one slot on and for now.
-use Rattle.std.proofs.Common.{◌≡◌, ℕ, ◌+◌, ◌%◌, ◌<◌, cond, ltb, sym, ap, ◌∙◌, mod-eq_of_lt, arith}
-use native.Mathlib.Nat.{mod-add-mod}
+-- The turns of an alternating policy, one slot on.
+use Rattle.std.proofs.Common.{◌≡◌, ℕ, ◌+◌, ◌<◌, ap, mod-eq_of_lt, arith}
+use Rattle.std.proofs.Math.Nat.{mod-add-mod}
 use mathlib.Core.Path.{fun_ext}
 use Rattle.alternating.specs.declared.schedule.Schedule.{Schedule}
+use Rattle.policy.specs.FourNumbers.{FourHolds, number}
 use Rattle.policy.specs.Timing.{later}
-use Rattle.policy.specs.FourNumbers.{number, caps_of}
-use Rattle.alternating.specs.Alternation.{larger, span, in_turn, alternating, ruling, advanced}
+use Rattle.alternating.specs.Alternation.{span, in_turn, ruling, alternating, advanced}
 
-one_on : (p at k : ℕ) → ((at + 1) % p + k) % p ≡ (at + (k + 1)) % p
-one_on p at k = mod-add-mod (at + 1) p k ∙ ap (λ x. x % p) (omega arith)
+-- the set that rules so many slots after the next is the one that rules one slot further on
+turn_later : (s : Schedule) (k : ℕ) → in_turn (advanced s) ((advanced s).at + k) ≡ in_turn s (s.at + (k + 1))
+turn_later s k = grind (arith, mod-add-mod (s.at + 1) (span s) k)
 
 pub alternating_later : (s : Schedule) → alternating (advanced s) ≡ later (alternating s)
 alternating_later s =
-    ap
-    (λ (f : ℕ → ℕ). record {
-      caps = larger (caps_of s.first.holds) (caps_of s.second.holds);
-      hold = λ k core holder line requester. number (cond (ltb (f k) s.first.slots) s.first.holds s.second.holds) holder requester;
-    })
-    (fun_ext (λ k. one_on (span s) s.at k))
+    ap (λ (turn : ℕ → FourHolds). record (alternating s) { hold = λ k core holder line requester. number (turn k) holder requester })
+    (fun_ext (λ k. turn_later s k))
 
+-- where now lies within the two spells, the set that rules now is the one of this slot
 pub ruling_now : (s : Schedule) → s.at < span s → ruling s ≡ in_turn s (s.at + 0)
-ruling_now s h =
-    sym
-    (ap (λ x. cond (ltb x s.first.slots) s.first.holds s.second.holds)
-    (ap (λ x. x % span s) (omega arith) ∙ mod-eq_of_lt h))
+ruling_now s inside = grind (arith, mod-eq_of_lt)

@@ -1,18 +1,16 @@
 -- A lawful policy under caps obeys the law of policies.
-use Rattle.std.specs.Prelude.{min, ◌≡◌, refl}
+use Rattle.std.specs.Prelude.{min, ◌≡◌}
 use Rattle.std.proofs.Common.{arith}
 use Rattle.setup.specs.Bound.{Caps}
 use Rattle.setup.specs.Classes.{of_class}
 use Rattle.setup.specs.declared.class.Class.{Class}
-use Rattle.setup.specs.declared.class.Class.TheVariants.{Critical, NonCritical}
 use Rattle.policy.specs.OwnCaps.{SomeCaps, some_own, cut_few}
 use Rattle.policy.specs.Timing.{Timing, Lawful}
 use Rattle.capped.specs.Capping.{smaller, capped}
 
 -- the smaller of two caps
 smaller_cap : (a b : Caps) (holder : Class) → of_class (smaller a b) holder ≡ min (of_class a holder) (of_class b holder)
-smaller_cap a b Critical = refl
-smaller_cap a b NonCritical = refl
+smaller_cap a b holder = grind arith
 
 pub capped_lawful : (caps : Caps) (t : Timing) → SomeCaps caps → Lawful t → Lawful (capped caps t)
 capped_lawful caps t s law =

@@ -1,7 +1,6 @@
 -- A table of holds for each line obeys the law of policies.
-use Rattle.std.specs.Prelude.{ℕ, ◌+◌, ◌*◌, ◌/◌, List, length, nat_lt}
+use Rattle.std.specs.Prelude.{ℕ, List}
 use Rattle.std.proofs.Common.{arith}
-use Rattle.std.proofs.lemmas.Bool.{cond_both}
 use Rattle.setup.specs.Bound.{Caps}
 use Rattle.policy.specs.FourNumbers.{FewHolds}
 use Rattle.policy.specs.FixedLaw.{few_number}
@@ -10,10 +9,7 @@ use Rattle.policy.specs.Timing.{Lawful}
 use Rattle.per_line.specs.PerLine.{line_holds, per_line, FewTable}
 
 few_line : (table : List ℕ) → FewTable table → (line : ℕ) → FewHolds (line_holds table line)
-few_line table f line =
-    cond_both (nat_lt line (length table / 4)) _ _ FewHolds
-    (λ _. ((f (4 * line), f (4 * line + 1)), (f (4 * line + 2), f (4 * line + 3))))
-    (λ _. ((omega arith, omega arith), (omega arith, omega arith)))
+few_line table few line = grind (arith, few)
 
 pub per_line_lawful : (table : List ℕ) (caps : Caps) → FewTable table → SomeCaps caps → FewCaps caps → Lawful (per_line table caps)
 per_line_lawful table caps t s f =

@@ -3,28 +3,22 @@ use Rattle.std.specs.Prelude.{◌≤◌}
 use Rattle.std.proofs.Common.{arith}
 use Rattle.setup.specs.Classes.{of_class}
 use Rattle.setup.specs.declared.class.Class.{Class}
-use Rattle.setup.specs.declared.class.Class.TheVariants.{Critical, NonCritical}
+use Rattle.setup.specs.declared.class.Class.TheVariants.{Critical}
 use Rattle.policy.specs.Timing.{Lawful}
 use Rattle.policy.specs.FourNumbers.{FourHolds, number, caps_of, fixed, FewHolds}
 
 pub few_number : (v : FourHolds) → FewHolds v → (holder requester : Class) → number v holder requester ≤ 65535
-few_number v f Critical Critical = f.0.0
-few_number v f Critical NonCritical = f.0.1
-few_number v f NonCritical Critical = f.1.0
-few_number v f NonCritical NonCritical = f.1.1
+few_number v f holder requester = grind arith
 
 -- a four-number cap lies from 1 to 65,535 and above its number
 cap_some : (v : FourHolds) (holder : Class) → 1 ≤ of_class (caps_of v) holder
-cap_some v Critical = omega arith
-cap_some v NonCritical = omega arith
+cap_some v holder = grind arith
 
 cap_few : (v : FourHolds) → FewHolds v → (holder : Class) → of_class (caps_of v) holder ≤ 65535
-cap_few v f Critical = omega (arith, f.0.0)
-cap_few v f NonCritical = omega (arith, f.1.0)
+cap_few v f holder = grind arith
 
 cap_above : (v : FourHolds) (holder : Class) → number v holder Critical ≤ of_class (caps_of v) holder
-cap_above v Critical = omega arith
-cap_above v NonCritical = omega arith
+cap_above v holder = grind arith
 
 pub fixed_lawful : (v : FourHolds) → FewHolds v → Lawful (fixed v)
 fixed_lawful v f =

@@ -20,13 +20,10 @@ abbrev pub FewCaps : Caps → Type 0
 FewCaps caps = Few caps.critical × Few caps.noncritical
 
 pub some_own : (caps : Caps) → SomeCaps caps → (holder : Class) → 1 ≤ of_class caps holder
-some_own caps s Critical = s.0
-some_own caps s NonCritical = s.1
+some_own caps s holder = grind arith
 
 pub few_own : (caps : Caps) → FewCaps caps → (holder : Class) → of_class caps holder ≤ 65535
-few_own caps f Critical = f.0
-few_own caps f NonCritical = f.1
+few_own caps f holder = grind arith
 
 pub cut_few : (caps : Caps) → (holder requester : Class) (hold : ℕ) → hold ≤ 65535 → cut caps holder requester hold ≤ 65535
-cut_few caps holder Critical hold h = omega arith
-cut_few caps holder NonCritical hold h = h
+cut_few caps holder requester hold few = grind arith
