@@ -31,18 +31,10 @@ impl Alternating {
         ensures kind { ⟦<Self as Policy>⟧.kind ≡ 3 }
         ensures timing { ⟦<Self as Policy>⟧.timing result ≡ alternating (schedule (spell first n) (spell second m)) }
     {
-        let first = Spell {
-            holds: first,
-            slots: u32::from(n.max(1)),
-        };
-        let second = Spell {
-            holds: second,
-            slots: u32::from(m.max(1)),
-        };
         Alternating {
             schedule: Schedule {
-                first,
-                second,
+                first: Spell::of(first, n),
+                second: Spell::of(second, m),
                 at: 0,
             },
         }
@@ -77,6 +69,7 @@ impl Policy for Alternating {
 
     ghost lawful = { λ p. alternating_lawful p.schedule p.first p.second };
 
+    // A body for each impl: the trait says why.
     fn kind_number(&self) -> Kind {
         <Self as Policy>::KIND
     }

@@ -58,6 +58,7 @@ impl Memory for ByteTable<'_> {
 
     ghost words = { λ m. words m.bytes.now };
 
+    // A body for each impl: the trait says why.
     fn kind_number(&self) -> Kind {
         <Self as Memory>::KIND
     }

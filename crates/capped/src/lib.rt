@@ -47,6 +47,7 @@ impl<P: Policy> Policy for Capped<P> {
 
     ghost lawful = { λ p. capped_lawful p.own.caps (P.Policy.timing p.below) p.own.some (P.Policy.lawful p.below) };
 
+    // A body for each impl: the trait says why.
     fn kind_number(&self) -> Kind {
         CAPPED
     }

@@ -7,7 +7,6 @@ ghost use Rattle.setup.specs.Refusals.{number, numbered};
 use arrayvec::ArrayString;
 use itoa::{Buffer, Integer};
 use setup::cycles::Cycles;
-use setup::kind::Kind;
 use setup::refusal::Refusal;
 use setup::slots::Slots;
 
@@ -19,8 +18,10 @@ pub struct HubLine {
     /// The lines that the hub serves: as many as the set-up says and the memory has.
     pub lines: u8,
     pub width: u16,
-    pub memory: Kind,
-    pub policy: Kind,
+    /// The kind numbers of memory and policy.
+    // Numbers, and no `Kind`: that would be narrower, and a line has been written for any number.
+    pub memory: u8,
+    pub policy: u8,
     /// The bound of a critical wait.
     pub bound: Slots,
     pub cycles: Cycles,
@@ -65,8 +66,8 @@ fn hub_text(hub: HubLine) -> ArrayString<ROOM>
     push_number(&mut text, hub.critical);
     push_number(&mut text, hub.lines);
     push_number(&mut text, hub.width);
-    push_number(&mut text, hub.memory.number());
-    push_number(&mut text, hub.policy.number());
+    push_number(&mut text, hub.memory);
+    push_number(&mut text, hub.policy);
     push_number(&mut text, hub.bound.count());
     push_number(&mut text, hub.cycles.count());
     text.push_str("\n");

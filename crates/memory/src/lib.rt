@@ -20,8 +20,8 @@ pub trait Memory {
 
     ghost words: { Self → List ℕ };
 
-    // Each impl answers its `KIND`, all by the same body: the checker does not tie a constant to a ghost member
-    // where an impl has a lifetime, so that no body here could be proved for all (tried).
+    // Each impl answers its `KIND`. One body here for all was tried: it needs the constant tied to a ghost
+    // member of its name, which the checker refuses where an impl has a lifetime.
     fn kind_number(&self) -> Kind
         ensures { result ≡ kind };
 

@@ -38,6 +38,7 @@ impl Memory for WordTable<'_> {
 
     ghost words = { λ m. m.table.now };
 
+    // A body for each impl: the trait says why.
     fn kind_number(&self) -> Kind {
         <Self as Memory>::KIND
     }

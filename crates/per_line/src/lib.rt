@@ -9,7 +9,7 @@ ghost use Rattle.policy.specs.Timing.{later};
 ghost use Rattle.setup.specs.declared.class.Class.TheVariants.{Critical, NonCritical};
 
 use policy::Policy;
-use policy::holds::{Against, FourHolds};
+use policy::holds::FourHolds;
 use policy::own_caps::OwnCaps;
 use setup::bound::Caps;
 use setup::class::Class;
@@ -29,16 +29,7 @@ fn holds_of(table: &[u16], line: usize) -> FourHolds
 {
     let (lines, _) = table.as_chunks::<4>();
     match lines.get(line) {
-        Some(&[cc, cn, nc, nn]) => FourHolds {
-            critical: Against {
-                critical: cc,
-                noncritical: cn,
-            },
-            noncritical: Against {
-                critical: nc,
-                noncritical: nn,
-            },
-        },
+        Some(&row) => row.into(),
         None => FourHolds::default(),
     }
 }
@@ -66,6 +57,7 @@ impl Policy for PerLine<'_> {
 
     ghost lawful = { λ p. per_line_lawful p.table.now p.own.caps p.few p.own.some p.own.few };
 
+    // A body for each impl: the trait says why.
     fn kind_number(&self) -> Kind {
         <Self as Policy>::KIND
     }

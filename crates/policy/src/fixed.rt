@@ -37,6 +37,7 @@ impl Policy for Fixed {
 
     ghost lawful = { λ p. fixed_lawful p.holds p.few };
 
+    // A body for each impl: the trait says why.
     fn kind_number(&self) -> Kind {
         <Self as Policy>::KIND
     }

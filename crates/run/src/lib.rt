@@ -59,13 +59,14 @@ pub fn describe<M: Memory, P: Policy>(setup: &SetUp, memory: &M, policy: &mut P)
 {
     let lines = (setup.lines() as usize).min(memory.count());
     let bound = setup.bound(policy.caps());
+    // Each `as` is proved to lose nothing.
     HubLine {
         cores: setup.cores() as u8,
         critical: setup.critical() as u8,
         lines: lines as u8,
         width: setup.width() as u16,
-        memory: memory.kind_number(),
-        policy: policy.kind_number(),
+        memory: memory.kind_number().number(),
+        policy: policy.kind_number().number(),
         bound,
         cycles: bound.cycles(setup),
     }

@@ -1,4 +1,4 @@
--- The rows of a table of numbers, n to a row.
+-- The rows of a table of numbers, n to a row. They stand here since holds by line and words in bytes both lie in rows.
 use Rattle.std.proofs.Common.{◌≡◌, ℕ, zero, suc, ◌+◌, ◌*◌, ◌<◌, List, get_or, drop, arith}
 use Rattle.std.proofs.lemmas.List.{get_or-drop, get_or-take}
 use Rattle.std.specs.Simd.{first_chunks}

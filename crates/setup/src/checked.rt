@@ -1,5 +1,5 @@
 // The checked set-up.
-ghost use Rattle.setup.specs.Limits.{checking};
+ghost use Rattle.setup.specs.Limits.{KeepsLimits, checking};
 ghost use Rattle.setup.specs.Refusals.{numbered};
 ghost use Rattle.std.specs.Prelude.{◌≡◌, ◌≤◌};
 
@@ -36,6 +36,7 @@ impl TryFrom<Draft> for SetUp {
         let 1..=8 = draft.cores else {
             return Err(Refusal::CoreCount);
         };
+        // No pattern can name the cores.
         if !(1..=draft.cores).contains(&draft.critical) {
             return Err(Refusal::CriticalCount);
         }
@@ -53,6 +54,7 @@ impl SetUp {
     pub fn cores(&self) -> u32
         ensures value { result ≡ self.now.cores }
         ensures limits { (1 ≤ result) × (result ≤ 8) }
+        ensures checked { KeepsLimits self.now }
     {
         self.draft.cores
     }
@@ -60,6 +62,7 @@ impl SetUp {
     pub fn critical(&self) -> u32
         ensures value { result ≡ self.now.critical }
         ensures limits { (1 ≤ result) × (result ≤ self.now.cores) × (result ≤ 8) }
+        ensures checked { KeepsLimits self.now }
     {
         self.draft.critical
     }
@@ -67,6 +70,7 @@ impl SetUp {
     pub fn lines(&self) -> u32
         ensures value { result ≡ self.now.lines }
         ensures limits { (1 ≤ result) × (result ≤ 32) }
+        ensures checked { KeepsLimits self.now }
     {
         self.draft.lines
     }
@@ -74,6 +78,7 @@ impl SetUp {
     pub fn width(&self) -> u32
         ensures value { result ≡ self.now.width }
         ensures limits { (1 ≤ result) × (result ≤ 65535) }
+        ensures checked { KeepsLimits self.now }
     {
         self.draft.width
     }

@@ -1,5 +1,5 @@
 // The classes of cores, and what there is one of for each class.
-ghost use Rattle.setup.specs.Classes.{of_class};
+ghost use Rattle.setup.specs.Classes.{of_class, AreFourNumbers};
 ghost use Rattle.std.specs.Prelude.{◌≡◌};
 
 /// Whether a core is critical.
@@ -59,5 +59,24 @@ impl<T> From<ByClass<T>> for (T, T) {
 
     fn from(each: ByClass<T>) -> (T, T) {
         (each.critical, each.noncritical)
+    }
+}
+
+impl From<[u16; 4]> for ByClass<ByClass<u16>> {
+    ghost from_gives = { AreFourNumbers };
+
+    /// Four numbers in a row: by the first class and then by the second, critical before non-critical.
+    fn from(row: [u16; 4]) -> ByClass<ByClass<u16>> {
+        let [cc, cn, nc, nn] = row;
+        ByClass {
+            critical: ByClass {
+                critical: cc,
+                noncritical: cn,
+            },
+            noncritical: ByClass {
+                critical: nc,
+                noncritical: nn,
+            },
+        }
     }
 }

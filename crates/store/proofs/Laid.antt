@@ -7,7 +7,7 @@ use Rattle.std.proofs.lemmas.List.FromFn.{length-map-range_with_len, get_or-map-
 use Rattle.std.proofs.lemmas.List.{length-set, ext_get_or, get_or-replicate}
 use Rattle.std.proofs.lemmas.Grind.{common_steps}
 use Rattle.memory.specs.Words.{stored}
-use Rattle.store.specs.Overlay.{Place, holds, laid, overlaid, Placed, Known, displaced, held, held_in}
+use Rattle.store.specs.Overlay.{Place, holds, laid, overlaid, Placed, AllBelow, displaced, held, held_in}
 
 pub length_overlaid : (ws : List ℕ) (ps : List Place) → length (overlaid ws ps) ≡ length ws
 length_overlaid ws ps = length-map-range_with_len _ 0 (length ws)
@@ -34,12 +34,12 @@ overlaid_stored ws ps line word inside sixteen fit =
     (λ k within. grind (arith, common_steps, length_overlaid, get_or_overlaid))
 
 -- a store's places have words of lines below the count alone, so that the words below the count are all
-pub held_in_all : (count : ℕ) (ps : List Place) → length ps ≡ 16 → Known count ps → held_in count ps 16 ≡ count_by is_some ps
-held_in_all count ps sixteen known_lines = go 16 (omega arith) ∙ ap (count_by is_some) (take_all 16 ps (omega arith))
+pub held_in_all : (count : ℕ) (ps : List Place) → length ps ≡ 16 → AllBelow count ps → held_in count ps 16 ≡ count_by is_some ps
+held_in_all count ps sixteen below = go 16 (omega arith) ∙ ap (count_by is_some) (take_all 16 ps (omega arith))
   where
     one_more : (n : ℕ) → n < 16 → (p : Place) → get_or ps n None ≡ p → held count p + count_by is_some (take n ps) ≡ count_by is_some (take (n + 1) ps)
     one_more n few None e = grind (arith, count_by_more_no)
-    one_more n few (Some h) e = grind (arith, count_by_more_yes, known_lines n)
+    one_more n few (Some h) e = grind (arith, count_by_more_yes, below n)
 
     go : (n : ℕ) → n ≤ 16 → held_in count ps n ≡ count_by is_some (take n ps)
     go zero few = refl

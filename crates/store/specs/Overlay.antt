@@ -39,22 +39,22 @@ abbrev pub Placed : List Place → Type 0
 Placed ps = (i : ℕ) → i < 16 → fitting i (slice_index_or ps i None) ≡ true
 
 -- a place is free, or has the word of a line below the count
-abbrev pub known : ℕ → Place → Bool
-known count None = true
-known count (Some h) = nat_lt h.line count
+abbrev pub is_below : ℕ → Place → Bool
+is_below count None = true
+is_below count (Some h) = nat_lt h.line count
 
-abbrev pub Known : ℕ → List Place → Type 0
-Known count ps = (i : ℕ) → i < 16 → known count (slice_index_or ps i None) ≡ true
+abbrev pub AllBelow : ℕ → List Place → Type 0
+AllBelow count ps = (i : ℕ) → i < 16 → is_below count (slice_index_or ps i None) ≡ true
 
 -- the words below once the place's word has gone there
-abbrev pub released : List ℕ → Place → List ℕ
-released ws None = ws
-released ws (Some h) = stored ws h.line h.word
+abbrev pub words_sent : List ℕ → Place → List ℕ
+words_sent ws None = ws
+words_sent ws (Some h) = stored ws h.line h.word
 
 -- the same, to make room for a line
 abbrev pub displaced : List ℕ → Place → ℕ → List ℕ
 displaced ws None line = ws
-displaced ws (Some h) line = if h.line == line then ws else released ws (Some h)
+displaced ws (Some h) line = if h.line == line then ws else words_sent ws (Some h)
 
 -- after a store to a line: the words below, and the places
 abbrev pub below_after : List ℕ → List Place → ℕ → List ℕ

@@ -1,6 +1,6 @@
 // Sixteen places over a memory below; a line's number modulo 16 is that of its place. A place is taken
 // by a store to a line, and the word that was there goes below.
-ghost use Rattle.store.specs.Overlay.{Placed, Known};
+ghost use Rattle.store.specs.Overlay.{Placed, AllBelow};
 ghost use Rattle.std.specs.Prelude.{◌≡◌, length};
 
 use crate::place::{HeldWord, Place};
@@ -19,13 +19,13 @@ pub struct LastLevelStore<M: Memory> {
     places: [Place; 16],
     ghost sixteen: { length places ≡ 16 },
     ghost fitting: { Placed places },
-    ghost inside: { Known (length (M.Memory.words below)) places },
+    ghost inside: { AllBelow (length (M.Memory.words below)) places },
 }
 
 impl<M: Memory> LastLevelStore<M> {
     ghost use Rattle.std.specs.Prelude.{◌≡◌, length, replicate, count_by, is_some, None, slice_index_or};
     ghost use Rattle.store.specs.Meaning.{words_of, words_below};
-    ghost use Rattle.store.specs.Overlay.{place_of, held_word, displaced, held, held_in, released};
+    ghost use Rattle.store.specs.Overlay.{place_of, held_word, displaced, held, held_in, words_sent};
 
     /// A store with all places free, which means what the memory below means.
     #[tactic(auto, using(crate::proofs::Laid::overlaid_free))]
@@ -62,7 +62,7 @@ impl<M: Memory> LastLevelStore<M> {
     /// Stores a place's word below, and answers how many words, 1 or 0, the memory below took.
     fn send_below(&mut self, place: Place) -> u32
         ensures value { result ≡ held (length (words_below M.Memory.words self.old)) place }
-        ensures below { words_below M.Memory.words self.new ≡ released (words_below M.Memory.words self.old) place }
+        ensures below { words_below M.Memory.words self.new ≡ words_sent (words_below M.Memory.words self.old) place }
         ensures places { self.new.places ≡ self.old.places }
     {
         match place {
@@ -114,6 +114,7 @@ impl<M: Memory> Memory for LastLevelStore<M> {
 
     ghost words = { words_of M.Memory.words };
 
+    // A body for each impl: the trait says why.
     fn kind_number(&self) -> Kind {
         LAST_LEVEL
     }

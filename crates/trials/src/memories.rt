@@ -2,14 +2,13 @@
 use byte_memory::ByteTable;
 use memory::Memory;
 use memory::word_table::WordTable;
-use setup::refusal::Refusal;
 use store::last_level::LastLevelStore;
 
 /// The numbers of the refusals that reading from a line and storing to it answer, if both do.
 fn refusals<M: Memory>(memory: &mut M, line: usize) -> Option<(u8, u8)> {
     let read = memory.read(line).err()?;
     let stored = memory.store(line, 1).err()?;
-    Some((Refusal::number(read), Refusal::number(stored)))
+    Some((read.number(), stored.number()))
 }
 
 #[test]

@@ -4,21 +4,12 @@ use capped::Capped;
 use per_line::PerLine;
 use policy::Policy;
 use policy::fixed::Fixed;
-use policy::holds::{Against, FourHolds};
+use policy::holds::FourHolds;
 use setup::bound::Caps;
 use setup::class::Class;
 
 fn four(cc: u16, cn: u16, nc: u16, nn: u16) -> FourHolds {
-    FourHolds {
-        critical: Against {
-            critical: cc,
-            noncritical: cn,
-        },
-        noncritical: Against {
-            critical: nc,
-            noncritical: nn,
-        },
-    }
+    [cc, cn, nc, nn].into()
 }
 
 fn caps(critical: u16, noncritical: u16) -> Caps {
