@@ -1,7 +1,8 @@
 -- Numbers in a run file, and the bytes after them.
-use Rattle.std.specs.Prelude.{ℕ, Bool, if◌then◌else◌, not, List, length, take, drop, Some, None, Option, ◌==◌, bit_and, nat_le}
+use Rattle.std.specs.Prelude.{◌≡◌, ℕ, Bool, if◌then◌else◌, not, List, length, take, drop, Some, None, Option, ◌==◌, bit_and, nat_le}
 use Rattle.std.specs.Borrow.{Bor}
 use Rattle.std.specs.Int.Digits.{number_from_digits}
+use Rattle.runfile.specs.declared.reader.Reader.{Reader}
 
 -- a value and the bytes after it, or nothing where the bytes cannot be read
 abbrev pub Parsed : Type 0 → Type 0
@@ -34,3 +35,7 @@ seen (Some p) = Some (p.0, p.1.now)
 abbrev pub parsed : {A : Type 0} → Option A → List ℕ → Parsed A
 parsed None left = None
 parsed (Some a) left = Some (a, left)
+
+-- the reader answered what f reads by its map from the bytes that it had left; it has those behind left now, and keeps its map
+abbrev pub Reads : {A : Type 0} → (ℕ → List ℕ → Parsed A) → Reader → Option A → Reader → Type 0
+Reads f old r new = (parsed r new.rest.now ≡ f old.map old.rest.now) × (new.map ≡ old.map)

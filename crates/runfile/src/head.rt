@@ -1,6 +1,6 @@
 // The head of a run file: the draft of a set-up and the four holds of the policy.
 ghost use Rattle.std.specs.Prelude.{◌≡◌, ℕ, ◌≤◌, List, length, Ok};
-ghost use Rattle.runfile.specs.Fields.{seen, parsed, stands, field};
+ghost use Rattle.runfile.specs.Fields.{Reads, seen, stands, field};
 ghost use Rattle.runfile.specs.Head.{against_of, holds_of, draft_of, head, reading, outcome};
 ghost use Rattle.runfile.specs.Writing.{Fields, file_of, told};
 
@@ -78,8 +78,7 @@ fn parse(bytes: &[u8]) -> Option<(Head, &[u8])>
 // After a `None` it is left open what a reader has left: the file is refused, and nobody reads on.
 impl Reader<'_> {
     fn draft(&mut self) -> Option<Draft>
-        ensures value { parsed result self.new.rest.now ≡ draft_of self.old.map self.old.rest.now }
-        ensures map { self.new.map ≡ self.old.map }
+        ensures { Reads draft_of self.old result self.new }
     {
         Some(Draft {
             cores: self.number(&CORES)? as u32,
@@ -90,8 +89,7 @@ impl Reader<'_> {
     }
 
     fn holds(&mut self) -> Option<FourHolds>
-        ensures value { parsed result self.new.rest.now ≡ holds_of self.old.map self.old.rest.now }
-        ensures map { self.new.map ≡ self.old.map }
+        ensures { Reads holds_of self.old result self.new }
     {
         Some(FourHolds {
             critical: self.against(ABSENT_HOLDS.critical)?,
@@ -100,9 +98,7 @@ impl Reader<'_> {
     }
 
     fn against(&mut self, absent: Against) -> Option<Against>
-        ensures value { parsed result self.new.rest.now
-            ≡ against_of (stands self.old.map HOLDS) absent self.old.rest.now }
-        ensures map { self.new.map ≡ self.old.map }
+        ensures { Reads (λ map. against_of (stands map HOLDS) absent) self.old result self.new }
     {
         Some(Against {
             critical: self.hold(absent.critical)?,
@@ -111,9 +107,7 @@ impl Reader<'_> {
     }
 
     fn hold(&mut self, absent: u16) -> Option<u16>
-        ensures value { parsed result self.new.rest.now
-            ≡ field (stands self.old.map HOLDS) 2 absent self.old.rest.now }
-        ensures map { self.new.map ≡ self.old.map }
+        ensures { Reads (λ map. field (stands map HOLDS) 2 absent) self.old result self.new }
     {
         let hold = Field::<2> {
             bit: HOLDS,

@@ -1,7 +1,7 @@
 // Reading the fields of a run file. A number of several bytes has its highest byte in front.
 ghost use Rattle.std.specs.Prelude.{◌≡◌, ◌^◌, ◌<◌, ◌≤◌, MatchOption, IfSome, IfNone};
 ghost use Rattle.std.specs.Int.Digits.{number_from_digits};
-ghost use Rattle.runfile.specs.Fields.{fixed, field, stands, parsed};
+ghost use Rattle.runfile.specs.Fields.{Reads, fixed, field, stands};
 
 /// A field of WIDTH bytes: its bit in the map byte, and its number where that bit does not stand.
 #[derive(Clone, Copy)]
@@ -33,10 +33,8 @@ impl<'a> Reader<'a> {
 
     /// The number of a field, or its default where it is absent.
     pub(crate) fn number<const WIDTH: usize>(&mut self, which: &Field<WIDTH>) -> Option<u64>
-        ensures value { parsed result self.new.rest.now
-            ≡ field (stands self.old.map which.now.bit) WIDTH which.now.absent self.old.rest.now }
+        ensures value { Reads (λ map. field (stands map which.now.bit) WIDTH which.now.absent) self.old result self.new }
         ensures fits { IfSome result (λ number. number < 256 ^ WIDTH) }
-        ensures map { self.new.map ≡ self.old.map }
         ensures none { IfNone result (self.new ≡ self.old) }
     {
         if self.map & which.bit == 0 {
