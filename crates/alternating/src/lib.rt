@@ -16,6 +16,7 @@ use setup::kind::Kind;
 
 mod schedule;
 
+// No `impl Model`: the law of the policy is shown from the ghost fields, which it would hide.
 #[derive(Clone, Copy, Debug, PartialEq, Eq, Hash)]
 pub struct Alternating {
     schedule: Schedule,

@@ -10,6 +10,7 @@ use memory::Memory;
 use setup::kind::Kind;
 use setup::refusal::Refusal;
 
+// No `impl Model`: it would hide which buffer this is, and contracts say that it stays the caller's.
 #[derive(Debug, Drop)]
 pub struct ByteTable<'a> {
     bytes: &'a mut [u8],

@@ -18,6 +18,7 @@ use setup::kind::Kind;
 // this name besides, which the impl's methods read.
 const CAPPED: Kind = Kind { number: 4 };
 
+// No `impl Model`: it would hide the policy below, of which contracts speak beside the meaning.
 #[derive(Debug, Drop)]
 pub struct Capped<P: Policy> {
     below: P,

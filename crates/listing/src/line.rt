@@ -30,6 +30,7 @@ pub struct HubLine {
 /// The bytes that every line fits.
 const ROOM: usize = 64;
 
+// The answer is a length beside the buffer, since the buffer is the caller's and keeps what stands behind.
 /// Writes the line of a hub, or of a refusal, to the front of the buffer, and answers its length. The
 /// bytes after it stay as they were, and all of them where the buffer has fewer than 64.
 pub fn write_line(out: &mut [u8], line: Result<HubLine, Refusal>) -> Result<usize, Refusal>

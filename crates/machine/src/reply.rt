@@ -16,6 +16,7 @@ pub enum AskAnswer {
 }
 
 /// What a slot answers. Its owner is a critical core; its user is the core whose request was tried.
+// No plainer with its shared parts in structs: idle, waiting and done are three answers, each told whole.
 #[derive(Clone, Copy, Debug, PartialEq, Eq, Hash)]
 pub enum SlotAnswer {
     /// Nobody who could use the slot waits.

@@ -2,6 +2,7 @@
 use crate::op::Op;
 
 /// The request of a core. Its wait is the number of slots since its ask.
+// No plainer as an option of what is asked for: free, asked and ordered are the three states that events move on.
 #[derive(Clone, Copy, Debug, PartialEq, Eq, Hash)]
 pub enum Request {
     /// Nothing is asked for.

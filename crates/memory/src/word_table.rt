@@ -7,6 +7,7 @@ use crate::Memory;
 use setup::kind::Kind;
 use setup::refusal::Refusal;
 
+// No `impl Model`: it would hide which table this is, and contracts say that it stays the caller's.
 #[derive(Debug, Drop)]
 pub struct WordTable<'a> {
     table: &'a mut [u64],

@@ -15,6 +15,7 @@ use setup::bound::Caps;
 use setup::class::Class;
 use setup::kind::Kind;
 
+// No `impl Model`: the law of the policy is shown from the ghost field, which it would hide.
 #[derive(Debug, Drop)]
 pub struct PerLine<'a> {
     table: &'a [u16],

@@ -11,6 +11,7 @@ use setup::bound::Caps;
 use setup::class::Class;
 use setup::kind::Kind;
 
+// No `impl Model`: the law of the policy is shown from the ghost field, which it would hide.
 #[derive(Clone, Copy, Debug, PartialEq, Eq, Hash)]
 pub struct Fixed {
     holds: FourHolds,

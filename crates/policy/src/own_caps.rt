@@ -5,6 +5,7 @@ use crate::holds::raised;
 use setup::bound::Caps;
 use setup::class::Class;
 
+// No `impl Model`: the laws of policies are shown from the ghost fields, which it would hide.
 #[derive(Clone, Copy, Debug, PartialEq, Eq, Hash)]
 pub struct OwnCaps {
     caps: Caps,

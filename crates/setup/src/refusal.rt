@@ -31,7 +31,7 @@ pub enum Refusal {
 
 impl Refusal {
     /// The number that stands for the refusal outside, as in a listing.
-    // No plainer as `u8::from(refusal)`, which would not say which number.
+    // No plainer as `u8::from(refusal)`, which would not say which number; and its name is promised.
     pub fn number(self) -> u8
         ensures { result ≡ number self }
     {

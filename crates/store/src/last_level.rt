@@ -13,6 +13,7 @@ use std::mem;
 // this name besides, which the impl's methods read.
 const LAST_LEVEL: Kind = Kind { number: 3 };
 
+// No `impl Model`: it would hide the memory below and the places, of which contracts speak beside the meaning.
 #[derive(Debug, Drop)]
 pub struct LastLevelStore<M: Memory> {
     below: M,

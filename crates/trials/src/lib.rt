@@ -7,3 +7,5 @@ mod listings;
 mod memories;
 #[cfg(test)]
 mod policies;
+#[cfg(test)]
+mod states;
