@@ -31,12 +31,7 @@ wish_waiting r l o e = grind arith
 -- only a core with a free request is told to wait
 waits_free : (z : Sizes) (s : State) (j l : ℕ) (o : Op) → waits ≡ (asking z j l o s).reply → is_waiting (s.requests j) ≡ false
 unfolding asking
-waits_free z s j l o e = go (ask_refusal z j l s) refl e
-  where
-    go : (v : Option Refusal) → ask_refusal z j l s ≡ v → waits ≡ (unless v (accepted j l o (s.copies l j) s) s).reply
-        → is_waiting (s.requests j) ≡ false
-    go None a e = (ask_accepted z j l s a).2
-    go (Some refusal) a e = absurd (never cc)
+waits_free z s j l o e = grind arith
 
 -- an event that does not serve the core leaves what it waits for
 wish_kept : (b : Start) (i l : ℕ) (o : Op) (e : Event) (h : History) (s : State) → Earlier b e h s → wish_in h i ≡ wish l o

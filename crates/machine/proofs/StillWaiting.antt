@@ -1,6 +1,6 @@
 -- A request that waits goes on waiting and counts the slots, until a done slot of its core.
 use Rattle.std.proofs.Common.{◌≡◌, ℕ, suc, ◌+◌, min, true, false, cond, ◌≢◌, ◌⊎◌, [], ◌∷◌, ◌++◌, Some, None, Option, sym, refl, subst, inl, inr, arith}
-use Rattle.std.proofs.lemmas.Bool.{eq-eqb, cases_eq}
+use Rattle.std.proofs.lemmas.Bool.{eq-eqb, eqb-true, cases_eq}
 use Rattle.setup.specs.declared.refusal.Refusal.{Refusal}
 use Rattle.setup.specs.declared.class.Class.{Class}
 use Rattle.machine.specs.declared.call.Call.{Call}
@@ -49,11 +49,7 @@ still_up z c l k r w x = grind arith
 module _ (z : Sizes) (i : ℕ) where
   still_order : (s : State) (u w : ℕ) → Still (s.requests i) w → Still ((order z s u).requests i) w
   unfolding order
-  still_order s u w x =
-      let n : ℕ = queue_length z s (class_of z u) (line_of (s.requests u)) in
-      put_all (λ j r. i ≡ j → Still r w) u (ordered_behind n (s.requests u)) s.requests
-      (λ e. still_ordered n (s.requests u) w (subst (λ j. Still (s.requests j) w) e x))
-      (λ j _ e. subst (λ j. Still (s.requests j) w) e x) i refl
+  still_order s u w x = grind (arith, eqb-true, still_ordered)
 
   still_grant : (s : State) (u w : ℕ) → i ≢ u → Still (s.requests i) w → Still ((grant z s u).requests i) w
   still_grant s u w ne x = rw (grant_others z s u i ne) (still_up z (class_of z u) (line_of (s.requests u)) i (s.requests i) w x)
@@ -61,12 +57,7 @@ module _ (z : Sizes) (i : ℕ) where
   still_try : (s : State) (u w : ℕ) → Still (s.requests i) w
       → (is_served i (effect Slot (try_user z s u).reply) ≡ true) ⊎ Still ((try_user z s u).state.requests i) w
   unfolding try_user end_slot
-  still_try s u w x =
-      elim (is_granted z s u) as
-      (λ t. (is_served i (effect Slot (tried z t s u).reply) ≡ true) ⊎ Still ((tried z t s u).state.requests i) w) [
-        | true ↦ elim (cases_eq i u) [ inl e ↦ inl (eq-eqb i u e) | inr ne ↦ inr (still_grant s u w ne x) ]
-        | false ↦ inr x
-      ]
+  still_try s u w x = grind (arith, eqb-true, still_grant s u w)
 
   still_slot : (s : State) (w : ℕ) → Still (s.requests i) w
       → (is_served i (effect Slot (slotting z s).reply) ≡ true) ⊎ Still ((slotting z s).state.requests i) (tick_wait w)
@@ -93,11 +84,7 @@ module _ (z : Sizes) (i : ℕ) where
 
   still_ask : (s : State) (j l w : ℕ) (o : Op) → Still (s.requests i) w → Still ((asking z j l o s).state.requests i) w
   unfolding asking
-  still_ask s j l w o x = go (ask_refusal z j l s) refl
-    where
-      go : (v : Option Refusal) → ask_refusal z j l s ≡ v → Still ((unless v (accepted j l o (s.copies l j) s) s).state.requests i) w
-      go None e = still_accepted s j l w o (s.copies l j) (ask_accepted z j l s e).2 x
-      go (Some refusal) e = x
+  still_ask s j l w o x = grind (arith, eqb-true)
 
   -- n is the number of slots since the ask
   still_step : (s : State) (c : Call) (n : ℕ) → Still (s.requests i) (min n 4294967295)
@@ -119,18 +106,7 @@ module _ (z : Sizes) (i : ℕ) where
 still_new : (z : Sizes) (s : State) (i l : ℕ) (o : Op) → waits ≡ (asking z i l o s).reply
     → Still ((asking z i l o s).state.requests i) 0
 unfolding asking
-still_new z s i l o e = go (ask_refusal z i l s) e
-  where
-    new : (o : Op) → Still (put i (Asked l o 0) s.requests i) 0
-    new o = rw (put_same i (Asked l o 0) s.requests) (record { waits = refl; count = refl })
-
-    go : (v : Option Refusal) → waits ≡ (unless v (accepted i l o (s.copies l i) s) s).reply
-        → Still ((unless v (accepted i l o (s.copies l i) s) s).state.requests i) 0
-    go None e =
-        accepted_all i l s (λ o x out. waits ≡ out.reply → Still (out.state.requests i) 0)
-        (λ o e. new o) (λ copy e. absurd (never cc)) (λ v copy e. new (Write v)) (λ v copy _ e. absurd (never cc))
-        o (s.copies l i) e
-    go (Some refusal) e = absurd (never cc)
+still_new z s i l o e = grind arith
 
 -- since such an ask the core was served, or its request waits with the number of slots as its wait count
 pub still_from : (b : Start) (i l : ℕ) (o : Op) (since before_it : History) (s : State)

@@ -1,5 +1,5 @@
 -- Refusals and questions change nothing.
-use Rattle.std.proofs.Common.{◌≡◌, ℕ, Bool, true, false, Some, None, Option, refl, inl, inr}
+use Rattle.std.proofs.Common.{◌≡◌, ℕ, Bool, true, false, Some, None, Option, refl, inl, inr, arith}
 use Rattle.setup.specs.declared.refusal.Refusal.{Refusal}
 use Rattle.machine.specs.declared.call.Call.{Call}
 use Rattle.machine.specs.declared.call.Call.TheVariants.{Ask, Slot, Settle, WordOf, StateOf, BoundOf}
@@ -24,28 +24,12 @@ use Rattle.machine.proofs.Counting.{never}
 module _ (z : Sizes) (s : State) where
   ask_unchanged : (i l : ℕ) (o : Op) (e : Refusal) → (asking z i l o s).reply ≡ refused e → (asking z i l o s).state ≡ s
   unfolding asking
-  ask_unchanged i l o e r = go (ask_refusal z i l s) r
-    where
-      go : (v : Option Refusal) → (unless v (accepted i l o (s.copies l i) s) s).reply ≡ refused e
-          → (unless v (accepted i l o (s.copies l i) s) s).state ≡ s
-      go None r =
-          accepted_all i l s (λ o x out. out.reply ≡ refused e → out.state ≡ s)
-          (λ o r. absurd (never cc)) (λ copy r. refl) (λ w copy r. absurd (never cc)) (λ w copy _ r. absurd (never cc))
-          o (s.copies l i) r
-      go (Some refusal) r = refl
+  ask_unchanged i l o e r = grind arith
 
   -- a slot is never refused
   slot_accepted : (e : Refusal) → (slotting z s).reply ≡ refused e → ⊥
   unfolding slotting try_user
-  slot_accepted e r = go (user_of z (tick s)) r
-    where
-      at : (t : Bool) (s : State) (u : ℕ) → (tried z t s u).reply ≡ refused e → ⊥
-      at true s u r = never cc
-      at false s u r = never cc
-
-      go : (f : Option ℕ) → (used_by z f (tick s)).reply ≡ refused e → ⊥
-      go None r = never cc
-      go (Some u) r = at (is_granted z (order z (move_mark z (tick s) u) u) u) (order z (move_mark z (tick s) u) u) u r
+  slot_accepted e r = grind arith
 
   refused_unchanged : (c : Call) (e : Refusal) → (step z c s).reply ≡ refused e → (step z c s).state ≡ s
   unfolding settling telling_word telling_state

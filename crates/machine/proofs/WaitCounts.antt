@@ -31,19 +31,7 @@ order_wait z s u =
 done_wait : (z : Sizes) (s : State) (owner u l w n : ℕ) (k : Role) → done owner u l k w n ≡ (slotting z s).reply
     → n ≡ wait_of (tick_request (s.requests u))
 unfolding slotting try_user tick move_mark
-done_wait z s owner u l w n k e = go (user_of z (tick s)) e
-  where
-    at : (t : Bool) (v : ℕ) → done owner u l k w n ≡ (tried z t (order z (move_mark z (tick s) v) v) v).reply
-        → n ≡ wait_of (tick_request (s.requests u))
-    at true v e =
-        let same : u ≡ v = cc in
-        let n_is : n ≡ wait_of ((order z (move_mark z (tick s) v) v).requests v) = cc in
-        n_is ∙ (order_wait z (move_mark z (tick s) v) v ∙ ap (λ i. wait_of (tick_request (s.requests i))) (sym same))
-    at false v e = absurd (never cc)
-
-    go : (f : Option ℕ) → done owner u l k w n ≡ (used_by z f (tick s)).reply → n ≡ wait_of (tick_request (s.requests u))
-    go None e = absurd (never cc)
-    go (Some v) e = at (is_granted z (order z (move_mark z (tick s) v) v) v) v e
+done_wait z s owner u l w n k e = grind (arith, order_wait)
 
 tick_counts : (r : Request) (w : ℕ) → Still r w → wait_of (tick_request r) ≡ tick_wait w
 tick_counts r w x = grind arith
