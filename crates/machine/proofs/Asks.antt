@@ -1,31 +1,22 @@
 -- What an ask that is not refused says of its numbers, how it is accepted, and what questions leave.
-use Rattle.std.proofs.Common.{◌≡◌, ℕ, ◌<◌, Bool, true, false, not, ltb, Some, None, Option, refl, cond}
-use Rattle.std.proofs.lemmas.Bool.{ltb-true, not-true}
+use Rattle.std.proofs.Common.{◌≡◌, ℕ, ◌<◌, false, Some, None, Option, refl, cond, arith}
+use Rattle.std.proofs.lemmas.Bool.Decides.{nat_tests}
 use Rattle.setup.specs.declared.refusal.Refusal.{Refusal}
-use Rattle.setup.specs.declared.refusal.Refusal.TheVariants.{NoSuchCore, NoSuchLine, RequestPending}
 use Rattle.machine.specs.declared.held.Held.{Held}
 use Rattle.machine.specs.declared.op.Op.{Op}
 use Rattle.machine.specs.declared.op.Op.TheVariants.{Read, Write}
 use Rattle.machine.specs.declared.op.Role.{Role}
 use Rattle.machine.specs.declared.op.Role.TheVariants.{Reader, Writer}
 use Rattle.machine.specs.declared.sizes.Sizes.{Sizes}
-use Rattle.machine.specs.Asking.{tested, unless, ask_refusal, new_request, write_hit, accepted}
+use Rattle.machine.specs.Asking.{unless, ask_refusal, new_request, write_hit, accepted}
 use Rattle.machine.specs.Parts.{serves_writes, is_waiting}
 use Rattle.machine.specs.Replies.{Reply, hit}
 use Rattle.machine.specs.State.{State, Outcome, unchanged}
-use Rattle.machine.proofs.Counting.{never}
 
-tested_none : (ok : Bool) (e : Refusal) (next : Option Refusal) → tested ok e next ≡ None → (ok ≡ true) × (next ≡ None)
-tested_none true e next h = (refl, h)
-tested_none false e next h = absurd (never cc)
 
 pub ask_accepted : (z : Sizes) (i l : ℕ) (s : State) → ask_refusal z i l s ≡ None
     → (i < z.cores) × (l < z.lines) × (is_waiting (s.requests i) ≡ false)
-ask_accepted z i l s e =
-    let core = tested_none (ltb i z.cores) NoSuchCore _ e in
-    let line = tested_none (ltb l z.lines) NoSuchLine _ core.1 in
-    let free = tested_none (not (is_waiting (s.requests i))) RequestPending None line.1 in
-    (ltb-true i z.cores core.0, ltb-true l z.lines line.0, not-true (is_waiting (s.requests i)) free.0)
+ask_accepted z i l s e = (grind (arith, nat_tests), grind (arith, nat_tests), grind arith)
 
 -- what holds of each way in which an ask is accepted
 pub accepted_all : (i l : ℕ) (s : State) (P : Op → Option Held → Outcome → Type 0)

@@ -1,15 +1,14 @@
 -- Critical waits are bounded.
-use Rattle.std.proofs.Common.{◌≡◌, ℕ, ◌⊎◌, ◌∷◌, ◌++◌, Some, None, Option, subst, inl, inr, arith}
+use Rattle.std.proofs.Common.{◌≡◌, ℕ, ◌⊎◌, ◌∷◌, ◌++◌, subst, inl, inr, arith}
 use Rattle.setup.specs.declared.refusal.Refusal.{Refusal}
 use Rattle.machine.specs.declared.call.Call.TheVariants.{Ask}
 use Rattle.machine.specs.declared.op.Op.{Op}
 use Rattle.machine.specs.declared.sizes.Sizes.{Sizes}
-use Rattle.machine.specs.Asking.{unless, ask_refusal, accepted, asking}
+use Rattle.machine.specs.Asking.{asking}
 use Rattle.machine.specs.CriticalWaits.{CriticalWaitsAreBounded}
 use Rattle.machine.specs.History.{sizes, event, From}
 use Rattle.machine.specs.Replies.{Reply, refused, hit, waits}
 use Rattle.machine.specs.State.{State}
-use Rattle.machine.proofs.Asks.{accepted_all}
 use Rattle.machine.proofs.Histories.{earlier, cut, limits_from, lawful_from}
 use Rattle.machine.proofs.ReadyCalls.{wait_below, bound_small}
 use Rattle.machine.proofs.StillWaiting.{still_from}

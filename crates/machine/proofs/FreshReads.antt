@@ -1,21 +1,19 @@
 -- Reads answer the last finished write: what is computed from a history is what the relations on events say.
-use Rattle.std.proofs.Common.{◌≡◌, ℕ, Bool, true, false, cond, eqb, [], ◌∷◌, ◌++◌, Some, None, Option, sym, refl, ap, ◌∙◌, subst, inl, inr, arith}
+use Rattle.std.proofs.Common.{◌≡◌, ℕ, Bool, true, false, cond, eqb, [], ◌∷◌, ◌++◌, sym, refl, ap, ◌∙◌, subst, inl, inr, arith}
 use Rattle.std.proofs.lemmas.Bool.{eq-eqb, ne_eqb, eqb-true, cases_eq, cases_Bool}
-use Rattle.setup.specs.declared.refusal.Refusal.{Refusal}
 use Rattle.machine.specs.declared.call.Call.TheVariants.{Ask}
 use Rattle.machine.specs.declared.op.Op.{Op}
 use Rattle.machine.specs.declared.op.Op.TheVariants.{Read, Write}
 use Rattle.machine.specs.declared.request.Request.{Request}
 use Rattle.machine.specs.declared.sizes.Sizes.{Sizes}
 use Rattle.machine.specs.Answering.{Served, before, Unanswered, Answers, at_once, in_slot, Latest, starting, finished, kept}
-use Rattle.machine.specs.Asking.{unless, ask_refusal, accepted, asking}
+use Rattle.machine.specs.Asking.{asking}
 use Rattle.machine.specs.FreshReads.{ReadsAnswerTheLastFinishedWrite}
 use Rattle.machine.specs.History.{Start, sizes, Event, event, History, From, begun, called}
 use Rattle.machine.specs.Machine.{step}
 use Rattle.machine.specs.Parts.{is_waiting}
 use Rattle.machine.specs.Replies.{waits}
 use Rattle.machine.specs.State.{State}
-use Rattle.machine.proofs.Asks.{ask_accepted}
 use Rattle.machine.proofs.CoherentCalls.{kept_from, story}
 use Rattle.machine.proofs.Counting.{never}
 use Rattle.machine.proofs.Effects.{Effect, no_effect, begins, hits, serves, effect, effect_of, caused, is_served, served_now, served_when}

@@ -5,8 +5,6 @@ use Rattle.machine.specs.declared.call.Call.TheVariants.{StateOf}
 use Rattle.machine.specs.declared.core_state.CoreState.{CoreState}
 use Rattle.machine.specs.declared.core_state.CoreState.TheVariants.{S, M, Sti, Mti}
 use Rattle.machine.specs.declared.held.Held.{Held}
-use Rattle.machine.specs.declared.op.Role.{Role}
-use Rattle.machine.specs.declared.op.Role.TheVariants.{Reader, Writer}
 use Rattle.machine.specs.declared.request.Request.{Request}
 use Rattle.machine.specs.declared.sizes.Sizes.{Sizes}
 use Rattle.machine.specs.Asking.{unless, test_core, test_line}
@@ -14,13 +12,13 @@ use Rattle.machine.specs.History.{sizes}
 use Rattle.machine.specs.LoneWriters.{Writers, in_m, in_mti, Copied, writers, in_s, in_sti, WritersAreAlone}
 use Rattle.machine.specs.Machine.{step}
 use Rattle.machine.specs.Parts.{word_in}
-use Rattle.machine.specs.Questions.{request_state, copy_state, is_called_for, core_state, telling_state}
+use Rattle.machine.specs.Questions.{request_state, core_state, telling_state}
 use Rattle.machine.specs.Replies.{Reply, refused, in_state}
 use Rattle.machine.specs.State.{State, unchanged}
 use Rattle.machine.proofs.Coherence.{nothing, writes}
 use Rattle.machine.proofs.CoherentCalls.{story}
 use Rattle.machine.proofs.Counting.{never}
-use Rattle.machine.proofs.Shapes.{shape_of, shape}
+use Rattle.machine.proofs.Shapes.{shape}
 
 abbrev has_copy : CoreState → Bool
 has_copy S = true
@@ -48,17 +46,10 @@ refused_copied e c = elim c [ writers w ↦ elim w [ ] ]
 module _ (z : Sizes) (s : State) (i l : ℕ) where
   -- a copy's state is told of a copy alone, and a writer's of a writer's
   state_copied : (x : Option Held) → Copied (in_state (core_state z s i l x)) → shape x ≡ nothing → ⊥
-  state_copied None c none = request_copied l (s.requests i) c
-  state_copied (Some copy) c none = grind arith
+  state_copied x c none = grind (arith, request_copied)
 
   state_writers : (x : Option Held) → Writers (in_state (core_state z s i l x)) → shape x ≡ writes (word_in x)
-  state_writers None w = absurd (request_copied l (s.requests i) (writers w))
-  state_writers (Some copy) w = go copy.role (is_called_for z s i l (Some copy)) w
-    where
-      go : (r : Role) (t : Bool) → Writers (in_state (copy_state r t)) → shape_of r copy.word ≡ writes copy.word
-      go Writer t w = refl
-      go Reader true w = elim w [ ]
-      go Reader false w = elim w [ ]
+  state_writers x w = grind (arith, request_copied)
 
   -- the question for the state tells the state, or is refused
   told : (P : Reply → Type 0) → ((e : Refusal) → P (refused e) → ⊥) → P (step z (StateOf i l) s).reply

@@ -1,6 +1,6 @@
 -- The critical requests in order on each line: who sits where. There are c critical cores among n.
-use Rattle.std.proofs.Common.{◌≡◌, ℕ, suc, ◌-◌, ◌<◌, ◌≤◌, Bool, true, false, cond, ◌&&◌, eqb, ltb, ◌≢◌, ◌⊎◌, sym, refl, ap, ◌∙◌, ap₂, inl, inr, arith}
-use Rattle.std.proofs.lemmas.Bool.{eq-eqb, ne_eqb, cases_eq, cases_lt, and_parts, and_right, lt-ltb, ltb-true}
+use Rattle.std.proofs.Common.{◌≡◌, ℕ, suc, ◌-◌, ◌<◌, ◌≤◌, Bool, true, false, cond, ◌&&◌, eqb, ltb, ◌≢◌, ◌⊎◌, sym, refl, ap, ◌∙◌, inl, inr, arith}
+use Rattle.std.proofs.lemmas.Bool.{eq-eqb, ne_eqb, cases_lt, and_parts, and_right, lt-ltb, ltb-true, eqb-true}
 use Rattle.std.proofs.lemmas.Bool.Decides.{nat_tests}
 use Rattle.machine.specs.Places.{count_below}
 use Rattle.machine.proofs.Counting.{never, count_same, count_one_less, count_none, count_missed}
@@ -30,11 +30,7 @@ on_up l l' t = grind arith
 
 -- a seat after the step comes from one before
 up_from : (l l' a : ℕ) (t : Seat) → up l t ≡ seated l' a → (a' : ℕ) × (t ≡ seated l' a') × (a ≡ cond (eqb l' l) (a' - 1) a')
-up_from l l' a unseated e = absurd (never cc)
-up_from l l' a (seated l'' a') e =
-    let same : l'' ≡ l' = cc in
-    let b : a ≡ cond (eqb l'' l) (a' - 1) a' = cc in
-    (a', ap (λ x. seated x a') same, rw same at b)
+up_from l l' a t e = grind (arith, eqb-true)
 
 module _ (c n : ℕ) where
   -- whether a critical core has a seat on the line, and how many have
@@ -116,14 +112,8 @@ module _ (c n : ℕ) (c≤n : c ≤ n) (S S' : ℕ → Seat) (u l : ℕ) (u<c : 
   join_filled : Queues c n S → (l' k : ℕ) → k < len c n S' l' → (j : ℕ) × (j < c) × (S' j ≡ seated l' k)
   join_filled q l' k a =
       elim (cases_lt k (len c n S l')) [
-        | inl b ↦ let r = q.filled l' k b in (r.0, r.1, rest r.0 (not_user r.0 l' k r.2) ∙ r.2)
-        | inr b ↦ elim (cases_eq l l') [
-          | inl e ↦
-              let x : len c n S' l' ≡ suc (len c n S l') = rw e at join_len in
-              let y : S' u ≡ seated l' (len c n S l') = rw e at now_is in
-              let v : k ≡ len c n S l' = omega arith in (u, u<c, cc)
-          | inr d ↦ absurd (omega (arith, join_len_other l' d))
-        ]
+        | inl b ↦ let r = q.filled l' k b in (r.0, r.1, grind (arith, rest r.0))
+        | inr b ↦ (u, u<c, grind (arith, join_len, join_len_other l'))
       ]
 
   join_inside : Queues c n S → (l' a j : ℕ) → j < c → S' j ≡ seated l' a → a < len c n S' l'
@@ -141,24 +131,7 @@ module _ (c n : ℕ) (c≤n : c ≤ n) (S S' : ℕ → Seat) (u l : ℕ) (u<c : 
     (was : S u ≡ seated l 0) (now_is : S' u ≡ unseated) (rest : (j : ℕ) → j < c → j ≢ u → S' j ≡ up l (S j)) where
   pub leave_from : Queues c n S → (j l' a : ℕ) → j < c → S' j ≡ seated l' a
       → (j ≢ u) × (((l ≡ l') × (S j ≡ seated l' (suc a))) ⊎ ((l ≢ l') × (S j ≡ seated l' a)))
-  leave_from q j l' a b e =
-      elim (cases_eq j u) [
-        | inl same ↦ absurd (let x : S' u ≡ seated l' a = rw same at e in never cc)
-        | inr d ↦
-            let f = up_from l l' a (S j) (sym (rest j b d) ∙ e) in (
-              d,
-              elim (cases_eq l l') [
-                | inl same ↦
-                    let pos : f.0 ≢ 0 = λ z. d (q.apart l 0 j u b u<c (f.1 ∙ ap₂ seated (sym same) z) was) in
-                    let x : a ≡ f.0 - 1 = f.2 ∙ rw (eq-eqb l' l (sym same)) in
-                    let y : f.0 ≡ suc a = omega arith in
-                    inl (same, f.1 ∙ ap (seated l') y)
-                | inr ne ↦
-                    let x : a ≡ f.0 = f.2 ∙ rw (ne_eqb l' l (λ z. ne (sym z))) in
-                    inr (ne, f.1 ∙ ap (seated l') (sym x))
-              ],
-            )
-      ]
+  leave_from q j l' a b e = grind (arith, rest j, up_from l l' a (S j), q.apart l 0 j u)
 
   leave_len : len c n S l ≡ suc (len c n S' l)
   unfolding len
@@ -171,19 +144,8 @@ module _ (c n : ℕ) (c≤n : c ≤ n) (S S' : ℕ → Seat) (u l : ℕ) (u<c : 
 
   leave_filled : Queues c n S → (l' k : ℕ) → k < len c n S' l' → (j : ℕ) × (j < c) × (S' j ≡ seated l' k)
   leave_filled q l' k a =
-      elim (cases_eq l l') [
-        | inl e ↦
-            let v : len c n S l ≡ len c n S l' = ap (len c n S) e in
-            let x : len c n S l' ≡ suc (len c n S' l') = rw e at leave_len in
-            let r = q.filled l (suc k) (omega arith) in
-            let d : r.0 ≢ u = λ same. let x : S u ≡ seated l (suc k) = rw same at r.2 in let z : 0 ≡ suc k = cc in omega arith in
-            let less : suc k - 1 ≡ k = omega arith in
-            (r.0, r.1, rest r.0 r.1 d ∙ (ap (up l) r.2 ∙ (up_here l (suc k) ∙ rw (less, e))))
-        | inr d ↦
-            let r = q.filled l' k (rw (leave_len_other l' d) at a) in
-            let ne : r.0 ≢ u = λ same. let x : S u ≡ seated l' k = rw same at r.2 in d cc in
-            (r.0, r.1, rest r.0 r.1 ne ∙ (ap (up l) r.2 ∙ up_there l l' k (λ e. d (sym e))))
-      ]
+      let r = q.filled l' (cond (eqb l l') (suc k) k) (grind (arith, leave_len, leave_len_other l')) in
+      (r.0, r.1, grind (arith, rest r.0))
 
   leave_inside : Queues c n S → (l' a j : ℕ) → j < c → S' j ≡ seated l' a → a < len c n S' l'
   leave_inside q l' a j b e =

@@ -10,8 +10,6 @@ use Rattle.machine.specs.declared.call.Call.TheVariants.{Ask, Slot, Settle, Word
 use Rattle.machine.specs.declared.held.Held.{Held}
 use Rattle.machine.specs.declared.op.Op.{Op}
 use Rattle.machine.specs.declared.op.Op.TheVariants.{Read, Write}
-use Rattle.machine.specs.declared.request.Request.{Request}
-use Rattle.machine.specs.declared.request.Request.TheVariants.{Free, Asked, Ordered}
 use Rattle.machine.specs.declared.sizes.Sizes.{Sizes}
 use Rattle.machine.specs.Asking.{unless, ask_refusal, write_hit, accepted, asking}
 use Rattle.machine.specs.Granting.{in_way}
@@ -23,8 +21,8 @@ use Rattle.machine.specs.Questions.{telling_word, telling_state}
 use Rattle.machine.specs.Settling.{settling}
 use Rattle.machine.specs.State.{State}
 use Rattle.machine.proofs.Asks.{ask_accepted, accepted_all, unless_same}
-use Rattle.machine.proofs.Counting.{never, put_all}
-use Rattle.machine.proofs.Due.{Due, due_map}
+use Rattle.machine.proofs.Counting.{put_all}
+use Rattle.machine.proofs.Due.{due_map}
 use Rattle.machine.proofs.Histories.{limits_from, lawful_from}
 use Rattle.setup.specs.Limits.{KeepsLimits}
 use Rattle.machine.proofs.Limits.{limits}
@@ -132,19 +130,11 @@ ready_from b (called {s = s} c f) = ready_step (sizes b) b.timing.caps (fit_from
 -- between calls a critical request has waited less than the bound
 pub wait_below : (b : Start) {h : History} {s : State} → From b h s → (i : ℕ) → i < b.setup.critical → is_waiting (s.requests i) ≡ true
     → wait_of (s.requests i) < longest_wait b
-wait_below b {h} {s} f i a t = go (s.requests i) t ((ready_from b f).due i a)
-  where
-    z : Sizes
-    z = sizes b
-
-    fit : Fit z b.timing.caps
-    fit = fit_from b f
-
-    go : (r : Request) → is_waiting r ≡ true
-        → Due z.critical (gap z b.timing.caps) (longest_wait b) 1 (OverIn z s) (seats s) s.owner i r → wait_of r < longest_wait b
-    go Free t x = absurd (never cc)
-    go (Asked l o w) t x = omega (arith, x.2, fit.some_critical, fit.some_caps Critical)
-    go (Ordered l o a w) t x = omega (arith, x.in_time)
+wait_below b {h} {s} f i a t =
+    let fit = fit_from b f in
+    let few = fit.some_caps Critical in
+    let due = (ready_from b f).due i a in
+    grind arith
 
 -- .. so that no wait count stops short of it
 pub bound_small : (b : Start) → KeepsLimits b.setup → Lawful b.timing → longest_wait b < 4294967295

@@ -1,86 +1,51 @@
 -- A request that waits goes on waiting and counts the slots, until a done slot of its core.
-use Rattle.std.proofs.Common.{◌≡◌, ℕ, suc, ◌+◌, min, true, false, cond, ◌≢◌, ◌⊎◌, [], ◌∷◌, ◌++◌, Some, None, Option, sym, refl, subst, inl, inr, arith}
-use Rattle.std.proofs.lemmas.Bool.{eq-eqb, eqb-true, cases_eq}
-use Rattle.setup.specs.declared.refusal.Refusal.{Refusal}
-use Rattle.setup.specs.declared.class.Class.{Class}
+use Rattle.std.proofs.Common.{◌≡◌, ℕ, suc, ◌+◌, min, true, cond, ◌≢◌, ◌⊎◌, [], ◌∷◌, ◌++◌, sym, subst, inl, inr, arith}
+use Rattle.std.proofs.lemmas.Bool.{eqb-true}
 use Rattle.machine.specs.declared.call.Call.{Call}
 use Rattle.machine.specs.declared.call.Call.TheVariants.{Ask, Slot, Settle, WordOf, StateOf, BoundOf}
-use Rattle.machine.specs.declared.held.Held.{Held}
 use Rattle.machine.specs.declared.op.Op.{Op}
-use Rattle.machine.specs.declared.op.Op.TheVariants.{Write}
 use Rattle.machine.specs.declared.request.Request.{Request}
-use Rattle.machine.specs.declared.request.Request.TheVariants.{Asked}
 use Rattle.machine.specs.declared.sizes.Sizes.{Sizes}
 use Rattle.machine.specs.Answering.{Served, before}
-use Rattle.machine.specs.Arbitration.{user_of, move_mark}
-use Rattle.machine.specs.Asking.{unless, ask_refusal, accepted, asking}
-use Rattle.machine.specs.Grant.{step_up, grant}
-use Rattle.machine.specs.Granting.{is_granted}
+use Rattle.machine.specs.Arbitration.{move_mark}
+use Rattle.machine.specs.Asking.{asking}
+use Rattle.machine.specs.Grant.{grant}
 use Rattle.machine.specs.History.{Start, sizes, event, History, From, is_slot, slots}
 use Rattle.machine.specs.Machine.{step}
-use Rattle.machine.specs.Order.{ordered_behind, queue_length, order}
-use Rattle.machine.specs.Parts.{is_waiting, line_of, wait_of}
-use Rattle.machine.specs.Places.{put}
+use Rattle.machine.specs.Order.{order}
+use Rattle.machine.specs.Parts.{is_waiting, wait_of}
 use Rattle.machine.specs.Questions.{telling_word, telling_state}
 use Rattle.machine.specs.Replies.{waits}
 use Rattle.machine.specs.Settling.{settling}
-use Rattle.machine.specs.Slot.{end_slot, tried, try_user, used_by, slotting}
-use Rattle.machine.specs.State.{State, class_of}
-use Rattle.machine.specs.Time.{tick_wait, tick_request, tick}
-use Rattle.machine.proofs.Asks.{ask_accepted, accepted_all, unless_same}
-use Rattle.machine.proofs.Counting.{never, put_same, put_other, put_all}
+use Rattle.machine.specs.Slot.{end_slot, try_user, slotting}
+use Rattle.machine.specs.State.{State}
+use Rattle.machine.specs.Time.{tick_wait, tick}
+use Rattle.machine.proofs.Asks.{unless_same}
 use Rattle.machine.proofs.Effects.{effect, is_served, served_now}
-use Rattle.machine.proofs.Grants.{grant_others}
 use Rattle.machine.proofs.Histories.{earlier}
 
 pub record Still (r : Request) (w : ℕ) : Type 0 where
   pub waits : is_waiting r ≡ true
   pub count : wait_of r ≡ w
 
-still_tick : (r : Request) (w : ℕ) → Still r w → Still (tick_request r) (tick_wait w)
-still_tick r w x = grind arith
 
-still_ordered : (n : ℕ) (r : Request) (w : ℕ) → Still r w → Still (ordered_behind n r) w
-still_ordered n r w x = grind arith
 
-still_up : (z : Sizes) (c : Class) (l k : ℕ) (r : Request) (w : ℕ) → Still r w → Still (step_up z c l k r) w
-still_up z c l k r w x = grind arith
 
 module _ (z : Sizes) (i : ℕ) where
   still_order : (s : State) (u w : ℕ) → Still (s.requests i) w → Still ((order z s u).requests i) w
   unfolding order
-  still_order s u w x = grind (arith, eqb-true, still_ordered)
+  still_order s u w x = grind (arith, eqb-true)
 
   still_grant : (s : State) (u w : ℕ) → i ≢ u → Still (s.requests i) w → Still ((grant z s u).requests i) w
-  still_grant s u w ne x = rw (grant_others z s u i ne) (still_up z (class_of z u) (line_of (s.requests u)) i (s.requests i) w x)
+  unfolding grant
+  still_grant s u w ne x = grind arith
 
-  still_try : (s : State) (u w : ℕ) → Still (s.requests i) w
-      → (is_served i (effect Slot (try_user z s u).reply) ≡ true) ⊎ Still ((try_user z s u).state.requests i) w
-  unfolding try_user end_slot
-  still_try s u w x = grind (arith, eqb-true, still_grant s u w)
 
   still_slot : (s : State) (w : ℕ) → Still (s.requests i) w
       → (is_served i (effect Slot (slotting z s).reply) ≡ true) ⊎ Still ((slotting z s).state.requests i) (tick_wait w)
-  unfolding slotting tick end_slot move_mark
-  still_slot s w x =
-      let y = still_tick (s.requests i) w x in
-      elim (user_of z (tick s))
-      as (λ f. (is_served i (effect Slot (used_by z f (tick s)).reply) ≡ true) ⊎ Still ((used_by z f (tick s)).state.requests i)
-      (tick_wait w)) [
-        | None ↦ inr y
-        | Some u ↦ still_try (order z (move_mark z (tick s) u) u) u (tick_wait w) (still_order (move_mark z (tick s) u) u (tick_wait w) y)
-      ]
+  unfolding slotting try_user tick end_slot move_mark
+  still_slot s w x = grind (arith, still_order, still_grant)
 
-  still_accepted : (s : State) (j l w : ℕ) (o : Op) (x : Option Held) → is_waiting (s.requests j) ≡ false → Still (s.requests i) w
-      → Still ((accepted j l o x s).state.requests i) w
-  still_accepted s j l w o x free y =
-      accepted_all j l s (λ o x out. Still (out.state.requests i) w) new (λ copy. y) (λ v copy. new (Write v)) (λ v copy _. y) o x
-    where
-      ne : i ≢ j
-      ne e = let both : is_waiting (s.requests j) ≡ true = rw e at y.waits in never cc
-
-      new : (o : Op) → Still (put j (Asked l o 0) s.requests i) w
-      new o = rw (put_other j i (Asked l o 0) s.requests ne) y
 
   still_ask : (s : State) (j l w : ℕ) (o : Op) → Still (s.requests i) w → Still ((asking z j l o s).state.requests i) w
   unfolding asking

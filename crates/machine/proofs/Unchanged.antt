@@ -1,24 +1,20 @@
 -- Refusals and questions change nothing.
-use Rattle.std.proofs.Common.{◌≡◌, ℕ, Bool, true, false, Some, None, Option, refl, inl, inr, arith}
+use Rattle.std.proofs.Common.{◌≡◌, ℕ, refl, inl, inr, arith}
 use Rattle.setup.specs.declared.refusal.Refusal.{Refusal}
 use Rattle.machine.specs.declared.call.Call.{Call}
 use Rattle.machine.specs.declared.call.Call.TheVariants.{Ask, Slot, Settle, WordOf, StateOf, BoundOf}
 use Rattle.machine.specs.declared.op.Op.{Op}
 use Rattle.machine.specs.declared.sizes.Sizes.{Sizes}
-use Rattle.machine.specs.Arbitration.{user_of, move_mark}
-use Rattle.machine.specs.Asking.{unless, ask_refusal, accepted, asking}
-use Rattle.machine.specs.Granting.{is_granted}
+use Rattle.machine.specs.Asking.{asking}
 use Rattle.machine.specs.History.{sizes}
 use Rattle.machine.specs.Machine.{step}
-use Rattle.machine.specs.Order.{order}
 use Rattle.machine.specs.Questions.{telling_word, telling_state}
 use Rattle.machine.specs.Replies.{refused}
 use Rattle.machine.specs.Settling.{settling}
-use Rattle.machine.specs.Slot.{tried, try_user, used_by, slotting}
+use Rattle.machine.specs.Slot.{try_user, slotting}
 use Rattle.machine.specs.State.{State}
-use Rattle.machine.specs.Time.{tick}
 use Rattle.machine.specs.Unchanged.{Question, for_word, for_state, for_bound, RefusalsAndQuestionsChangeNothing}
-use Rattle.machine.proofs.Asks.{accepted_all, unless_same}
+use Rattle.machine.proofs.Asks.{unless_same}
 use Rattle.machine.proofs.Counting.{never}
 
 module _ (z : Sizes) (s : State) where

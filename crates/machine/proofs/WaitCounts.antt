@@ -1,20 +1,19 @@
 -- Waits are counted in slots.
-use Rattle.std.proofs.Common.{◌≡◌, ℕ, min, Bool, true, false, ◌∷◌, Some, None, Option, sym, ap, ◌∙◌, subst, inl, inr, arith}
+use Rattle.std.proofs.Common.{◌≡◌, ℕ, min, ◌∷◌, ap, ◌∙◌, subst, inl, inr, arith}
 use Rattle.machine.specs.declared.call.Call.TheVariants.{Slot}
 use Rattle.machine.specs.declared.op.Role.{Role}
 use Rattle.machine.specs.declared.request.Request.{Request}
 use Rattle.machine.specs.declared.sizes.Sizes.{Sizes}
-use Rattle.machine.specs.Arbitration.{user_of, move_mark}
-use Rattle.machine.specs.Granting.{is_granted}
+use Rattle.machine.specs.Arbitration.{move_mark}
 use Rattle.machine.specs.History.{sizes, event, From, slots}
 use Rattle.machine.specs.Order.{ordered_behind, queue_length, order}
 use Rattle.machine.specs.Parts.{line_of, wait_of}
 use Rattle.machine.specs.Replies.{done}
-use Rattle.machine.specs.Slot.{tried, try_user, used_by, slotting}
+use Rattle.machine.specs.Slot.{try_user, slotting}
 use Rattle.machine.specs.State.{State, class_of}
 use Rattle.machine.specs.Time.{tick_wait, tick_request, tick}
 use Rattle.machine.specs.WaitCounts.{WaitsAreCountedInSlots}
-use Rattle.machine.proofs.Counting.{never, put_same}
+use Rattle.machine.proofs.Counting.{put_same}
 use Rattle.machine.proofs.Histories.{earlier, cut}
 use Rattle.machine.proofs.StillWaiting.{Still, still_from}
 
