@@ -1,6 +1,6 @@
 -- Coherence, line by line, for any type V of what a line holds: a writer is alone, and every copy has the last written value; with no
 -- writer, so has the memory.
-use Rattle.std.proofs.Common.{◌≡◌, ℕ, ◌<◌, ◌≤◌, ◌≢◌, ◌⊎◌, sym, ◌∙◌, inl, inr, arith}
+use Rattle.std.proofs.Common.{◌≡◌, ℕ, ◌<◌, ◌≤◌, ◌≢◌, sym, ◌∙◌, arith}
 use Rattle.machine.specs.declared.op.Op.{Op}
 use Rattle.machine.specs.declared.op.Op.TheVariants.{Read}
 use Rattle.machine.proofs.Wishes.{Wish, wish}
@@ -38,17 +38,11 @@ line_same n X X' m m' last last' x e v c =
       home = λ h. e ∙ (c.home (λ i y w. h i y (x i ∙ w)) ∙ sym v);
     }
 
--- the memory's word changes under a writer, or not at all
-pub line_stored : {V : Type 0} (n : ℕ) (X : ℕ → Shape V) (m m' last : V) → ((i : ℕ) × (x : V) × (X i ≡ writes x)) ⊎ (m' ≡ m)
+-- the memory's word changes under a writer alone
+pub line_stored : {V : Type 0} (n : ℕ) (X : ℕ → Shape V) (m m' last : V) → (((i : ℕ) (x : V) → X i ≡ writes x → ⊥) → m' ≡ m)
     → Line n X m last → Line n X m' last
-line_stored n X m m' last d c =
-    record {
-      alone = c.alone;
-      inside = c.inside;
-      read_word = c.read_word;
-      write_word = c.write_word;
-      home = λ h. elim d [ inl w ↦ absurd (h w.0 w.1 w.2) | inr e ↦ e ∙ c.home h ];
-    }
+line_stored n X m m' last stays c =
+    record { alone = c.alone; inside = c.inside; read_word = c.read_word; write_word = c.write_word; home = λ h. stays h ∙ c.home h }
 
 -- one writer alone
 pub line_writer : {V : Type 0} (n : ℕ) (X : ℕ → Shape V) (m : V) (u : ℕ) (x : V) → u < n → X u ≡ writes x

@@ -1,7 +1,6 @@
 -- Every call keeps a hub ready, and so it is in every state reached.
-use Rattle.std.proofs.Common.{◌≡◌, ℕ, ◌+◌, ◌-◌, ◌*◌, ◌<◌, ◌≤◌, true, false, Some, None, Option, sym, refl, ap, ◌∙◌, subst, mul-le-mul, arith}
+use Rattle.std.proofs.Common.{◌≡◌, ℕ, ◌+◌, ◌-◌, ◌*◌, ◌<◌, ◌≤◌, true, Some, Option, sym, refl, ap, ◌∙◌, subst, mul-le-mul, arith}
 use Rattle.setup.specs.Bound.{Caps, bound}
-use Rattle.setup.specs.declared.refusal.Refusal.{Refusal}
 use Rattle.policy.specs.Timing.{Lawful}
 use Rattle.setup.specs.declared.class.Class.{Class}
 use Rattle.setup.specs.declared.class.Class.TheVariants.{Critical, NonCritical}
@@ -11,7 +10,7 @@ use Rattle.machine.specs.declared.held.Held.{Held}
 use Rattle.machine.specs.declared.op.Op.{Op}
 use Rattle.machine.specs.declared.op.Op.TheVariants.{Read, Write}
 use Rattle.machine.specs.declared.sizes.Sizes.{Sizes}
-use Rattle.machine.specs.Asking.{unless, ask_refusal, write_hit, accepted, asking}
+use Rattle.machine.specs.Asking.{write_hit, asking}
 use Rattle.machine.specs.Granting.{in_way}
 use Rattle.machine.specs.History.{Start, sizes, longest_wait, History, From, begun, called}
 use Rattle.machine.specs.Machine.{step}
@@ -20,7 +19,7 @@ use Rattle.machine.specs.Places.{put}
 use Rattle.machine.specs.Questions.{telling_word, telling_state}
 use Rattle.machine.specs.Settling.{settling}
 use Rattle.machine.specs.State.{State}
-use Rattle.machine.proofs.Asks.{ask_accepted, accepted_all, unless_same}
+use Rattle.machine.proofs.Asks.{ask_all, unless_same}
 use Rattle.machine.proofs.Counting.{put_all}
 use Rattle.machine.proofs.Due.{due_map}
 use Rattle.machine.proofs.Histories.{limits_from, lawful_from}
@@ -85,21 +84,11 @@ module _ (z : Sizes) (caps : Caps) (fit : Fit z caps) where
       still m a n over j k b hj seat b≤a way =
           omega (arith, same m k, over j k b hj seat b≤a (sym (hit_way s l i w old was j (op_of (s.requests j)) m k) ∙ way))
 
-  ready_accepted : (s : State) (i l : ℕ) (o : Op) (x : Option Held) → s.copies l i ≡ x → is_waiting (s.requests i) ≡ false → Ready z caps 1 s
-      → Ready z caps 1 (accepted i l o x s).state
-  ready_accepted s i l o x was free r =
-      accepted_all i l s (λ o x out. s.copies l i ≡ x → Ready z caps 1 out.state)
-      (λ o _. ready_asked z caps fit s i l o free r) (λ copy _. r)
-      (λ w copy _. ready_asked z caps fit s i l (Write w) free r) (λ w copy writers was. ready_hit s i l w copy was r)
-      o x was
 
   ready_ask : (s : State) (i l : ℕ) (o : Op) → Ready z caps 1 s → Ready z caps 1 (asking z i l o s).state
-  unfolding asking
-  ready_ask s i l o r = go (ask_refusal z i l s) refl
-    where
-      go : (v : Option Refusal) → ask_refusal z i l s ≡ v → Ready z caps 1 (unless v (accepted i l o (s.copies l i) s) s).state
-      go None e = ready_accepted s i l o (s.copies l i) refl (ask_accepted z i l s e).2 r
-      go (Some refusal) e = r
+  ready_ask s i l o r =
+      ask_all z i l s (λ o out. Ready z caps 1 out.state) (λ _ _. r) (λ o _ _ free _. ready_asked z caps fit s i l o free r)
+      (λ _ _. r) (λ w copy _ was _. ready_hit s i l w copy was r) o
 
   ready_step : (s : State) (c : Call) → Ready z caps 1 s → Ready z caps 1 (step z c s).state
   unfolding settling telling_word telling_state
