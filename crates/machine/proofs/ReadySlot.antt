@@ -1,53 +1,44 @@
 -- A whole slot keeps a hub ready.
-use Rattle.std.proofs.Common.{◌≡◌, ℕ, ◌+◌, ◌<◌, ◌≤◌, Bool, true, false, Some, None, Option, sym, refl, ap, ◌∙◌, inl, inr, arith}
-use Rattle.std.proofs.lemmas.Bool.{eq-eqb, eqb-true, and_parts}
+use Rattle.std.proofs.Common.{◌≡◌, ℕ, ◌+◌, ◌<◌, ◌≤◌, Bool, true, false, Some, None, Option, refl, ap, ◌∙◌, inl, inr, arith}
+use Rattle.std.proofs.lemmas.Bool.{eqb-true}
 use Rattle.setup.specs.Bound.{Caps}
-use Rattle.setup.specs.declared.class.Class.TheVariants.{Critical, NonCritical}
+use Rattle.setup.specs.declared.class.Class.TheVariants.{Critical}
 use Rattle.machine.specs.declared.sizes.Sizes.{Sizes}
 use Rattle.machine.specs.Arbitration.{user_of, move_mark}
-use Rattle.machine.specs.Granting.{in_way, lets_pass, is_first, has_priority, is_granted}
+use Rattle.machine.specs.Granting.{in_way, lets_pass, is_first, is_granted}
 use Rattle.machine.specs.Order.{ordered_behind, queue_length, order}
 use Rattle.machine.specs.Parts.{is_waiting, line_of, op_of}
-use Rattle.machine.specs.Places.{all_below}
 use Rattle.machine.specs.Slot.{tried, try_user, used_by, slotting}
 use Rattle.machine.specs.State.{State, class_of}
 use Rattle.machine.specs.Time.{tick}
-use Rattle.machine.proofs.Counting.{never, put_same, put_other, all_from}
+use Rattle.machine.proofs.Counting.{never, put_other, all_from}
 use Rattle.machine.proofs.Grants.{the_line}
 use Rattle.machine.proofs.Queues.{unseated, seated}
 use Rattle.machine.proofs.Ready.{timers, seats, OverIn, Fit, Ready, class_critical, class_other}
 use Rattle.machine.proofs.ReadyGrant.{ready_granted, ready_granted_other}
 use Rattle.machine.proofs.ReadySteps.{ready_tick, ready_mark, ready_order, ready_end}
-use Rattle.machine.proofs.Seats.{seat_of, free_unseated, in_order_seat, first_seat, is_first_from}
+use Rattle.machine.proofs.Seats.{free_unseated, first_seat, is_first_from}
 use Rattle.machine.proofs.Users.{user_waits, user_is, user_none}
 
 module _ (z : Sizes) (caps : Caps) (fit : Fit z caps) where
   -- what the test for a grant says
   granted_first : (s : State) (u : ℕ) → is_granted z s u ≡ true → seats s u ≡ seated (the_line z s u) 0
   unfolding is_granted
-  granted_first s u t = first_seat (s.requests u) (and_parts (is_first (s.requests u)) _ t).0
+  granted_first s u t = grind (arith, first_seat)
 
   granted_empty : (s : State) (u : ℕ) → z.critical ≤ u → is_granted z s u ≡ true → queue_length z s Critical (the_line z s u) ≡ 0
   unfolding is_granted
-  granted_empty s u h t =
-      let x = and_parts (all_below (λ k. lets_pass u (op_of (s.requests u)) (class_of z u) k (s.copies (the_line z s u) k)) z.cores)
-      (has_priority z s (class_of z u) (the_line z s u)) (and_parts (is_first (s.requests u)) _ t).1 in
-      let y : has_priority z s NonCritical (the_line z s u) ≡ true = rw (class_other z u h) at x.1 in
-      eqb-true (queue_length z s Critical (the_line z s u)) 0 y
+  granted_empty s u h t = grind (arith, class_other, eqb-true)
 
   granted_from : (s : State) (u : ℕ) → u < z.critical → is_first (s.requests u) ≡ true
       → ((j : ℕ) → in_way u (op_of (s.requests u)) j (s.copies (the_line z s u) j) ≡ true → timers s (the_line z s u) j ≡ 0)
       → is_granted z s u ≡ true
   unfolding is_granted
   granted_from s u h f t =
-      rw (
-        f,
-        all_from (λ k. lets_pass u (op_of (s.requests u)) (class_of z u) k (s.copies (the_line z s u) k)) z.cores (λ k _. at k),
-        class_critical z u h,
-      )
+      rw (f, class_critical z u h, all_from _ z.cores (λ k _. at k))
     where
-      at : (k : ℕ) → lets_pass u (op_of (s.requests u)) (class_of z u) k (s.copies (the_line z s u) k) ≡ true
-      at k = rw (class_critical z u h) (grind (arith, eq-eqb, t k))
+      at : (k : ℕ) → lets_pass u (op_of (s.requests u)) Critical k (s.copies (the_line z s u) k) ≡ true
+      at k = grind (arith, t k)
 
   ready_try : (s : State) (u : ℕ) → u ≡ s.owner → (seats s u ≡ unseated → ⊥) → Ready z caps 0 s → Ready z caps 1 (try_user z s u).state
   unfolding try_user
@@ -81,9 +72,7 @@ module _ (z : Sizes) (caps : Caps) (fit : Fit z caps) where
 
   order_sits : (s : State) (u : ℕ) → is_waiting (s.requests u) ≡ true → seats (order z s u) u ≡ unseated → ⊥
   unfolding order
-  order_sits s u t e =
-      let n : ℕ = queue_length z s (class_of z u) (line_of (s.requests u)) in
-      in_order_seat n (s.requests u) t (sym (ap seat_of (put_same u (ordered_behind n (s.requests u)) s.requests)) ∙ e)
+  order_sits s u t e = grind arith
 
   -- what a slot leaves for a user
   ready_used : (s : State) (u : ℕ) → Ready z caps 0 s → user_of z s ≡ Some u
