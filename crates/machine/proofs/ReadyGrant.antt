@@ -1,19 +1,20 @@
 -- A grant keeps a hub ready.
-use Rattle.std.proofs.Common.{◌≡◌, ℕ, suc, ◌+◌, ◌<◌, ◌≤◌, max, true, false, ◌≢◌, ◌⊎◌, sym, refl, ap, ◌∙◌, inl, inr, arith, Some}
+use Rattle.std.proofs.Common.{◌≡◌, ℕ, suc, ◌+◌, ◌<◌, ◌≤◌, max, true, false, ◌≢◌, ◌⊎◌, sym, refl, ap, ◌∙◌, inl, inr, arith}
 use Rattle.std.proofs.lemmas.Bool.{cases_eq}
 use Rattle.setup.specs.Bound.{Caps, bound}
 use Rattle.setup.specs.Classes.{of_class}
 use Rattle.setup.specs.declared.class.Class.TheVariants.{Critical}
+use Rattle.machine.specs.declared.op.Op.{Op}
 use Rattle.machine.specs.declared.sizes.Sizes.{Sizes}
-use Rattle.machine.specs.Grant.{ended, loaded, grant}
+use Rattle.machine.specs.Grant.{loaded, grant}
 use Rattle.machine.specs.Granting.{in_way}
 use Rattle.machine.specs.Order.{queue_length}
-use Rattle.machine.specs.Parts.{timer, is_waiting, op_of}
+use Rattle.machine.specs.Parts.{is_waiting, op_of}
 use Rattle.machine.specs.Slot.{end_slot}
 use Rattle.machine.specs.State.{State, class_of}
 use Rattle.machine.proofs.Counting.{never}
 use Rattle.machine.proofs.Due.{due_map, due_pass, due_grant}
-use Rattle.machine.proofs.Grants.{the_line, the_way, new_copy, grant_there, grant_new, grant_rest, grant_user, grant_others}
+use Rattle.machine.proofs.Grants.{the_line, the_way, grant_there, grant_new, grant_rest, grant_user, grant_others}
 use Rattle.machine.proofs.Owners.{next_owner}
 use Rattle.machine.proofs.Queues.{unseated, seated, up, Queues, queues_same, leave_from, leave}
 use Rattle.machine.proofs.Ready.{timers, seats, OverIn, Fit, gap, longest_hold, DueIn, Ready, queue_seats, class_critical, class_other, timed_later, turn_after, hold_small}
@@ -21,24 +22,11 @@ use Rattle.machine.proofs.Seats.{seat_of, raised, raised_seat, raised_op, free_u
 use Rattle.machine.proofs.Timers.{timer_ended, timer_kept}
 
 module _ (z : Sizes) (caps : Caps) (fit : Fit z caps) where
-  abbrev C : ℕ
-  C = z.critical
-
-  abbrev D : ℕ
-  D = gap z caps
-
-  abbrev B : ℕ
-  B = bound z.critical caps
-
   -- after a grant: the new timer, and those of its line, and no other
   grant_here : (s : State) (u m : ℕ) → s.timing.hold 0 u (class_of z u) (the_line z s u) Critical ≤ m
       → (j : ℕ) → timers (grant z s u) (the_line z s u) j ≤ max (timers s (the_line z s u) j) m
   unfolding loaded
-  grant_here s u m h j =
-      elim (cases_eq j u) [
-        | inl e ↦ rw (e, ap (timer Critical) (grant_new z s u)) (omega arith)
-        | inr ne ↦ omega (arith, ap (timer Critical) (grant_rest z s u j ne), timer_ended (the_way z s u) (s.copies (the_line z s u)) j)
-      ]
+  grant_here s u m h j = grind (arith, grant_new z s u, grant_rest z s u j, timer_ended)
 
   ready_after : (s : State) (u : ℕ) → Ready z caps 0 s → ((l j : ℕ) → timers (grant z s u) l j ≤ longest_hold z caps)
       → Queues z.critical z.cores (seats (grant z s u))
@@ -58,15 +46,15 @@ module _ (z : Sizes) (caps : Caps) (fit : Fit z caps) where
 
   grant_capped : (s : State) (u : ℕ) → Ready z caps 0 s → (l j : ℕ) → timers (grant z s u) l j ≤ longest_hold z caps
   grant_capped s u r l j =
-      elim (cases_eq l (the_line z s u)) [
-        | inl e ↦ rw e (omega
-            (arith, grant_here s u (longest_hold z caps) (hold_small z caps fit 0 s u (the_line z s u) r) j, r.capped (the_line z s u) j))
-        | inr ne ↦ omega (arith, ap (timer Critical) (grant_there z s u l j ne), r.capped l j)
-      ]
+      grind (arith, grant_here s u (longest_hold z caps) (hold_small z caps fit 0 s u (the_line z s u) r) j, r.capped l j, grant_there z s u l j)
 
-  new_left : (s : State) (u : ℕ) → timer Critical (Some (new_copy z s u)) ≡ s.timing.hold 0 u (class_of z u) (the_line z s u) Critical
+  -- .. and what is in the way there is the new copy, or was in the way before
+  grant_over : (s : State) (u i j k m : ℕ) (o : Op) → s.timing.hold 0 u (class_of z u) (the_line z s u) Critical ≤ m → k ≤ m
+      → (in_way i o j (s.copies (the_line z s u) j) ≡ true → timers s (the_line z s u) j ≤ k)
+      → in_way i o j ((grant z s u).copies (the_line z s u) j) ≡ true → timers (grant z s u) (the_line z s u) j ≤ m
   unfolding loaded
-  new_left s u = refl
+  grant_over s u i j k m o h le over w =
+      grind (arith, grant_new z s u, grant_rest z s u j, timer_kept i j k o (the_way z s u) (s.copies (the_line z s u)) over)
 
   -- the owner's request is granted
   pub ready_granted : (s : State) (u : ℕ) → u ≡ s.owner → seats s u ≡ seated (the_line z s u) 0 → Ready z caps 0 s
@@ -106,47 +94,24 @@ module _ (z : Sizes) (caps : Caps) (fit : Fit z caps) where
       same_op : (i : ℕ) → i < z.critical → i ≢ u → op_of ((grant z s u).requests i) ≡ op_of (s.requests i)
       same_op i a ne = ap op_of (rest i a ne) ∙ raised_op l (s.requests i)
 
-      loaded_is : timer Critical (Some (new_copy z s u)) ≡ s.timing.hold 0 u (class_of z u) l Critical
-      loaded_is = new_left s u
-
       here : (a k m : ℕ) → OverIn z s l (suc a) k → k ≤ m → caps.critical ≤ m → OverIn z s' l a m
       here a k m x k≤m h≤m i j b hi f ba w =
           let g = from i l b hi f in
           elim g.1 [
-            | inl y ↦ elim (cases_eq j u) [
-              | inl same ↦ rw same (omega (arith, ap (timer Critical) (grant_new z s u), loaded_is, new_timer))
-              | inr ne ↦
-                  let c_is = grant_rest z s u j ne in
-                  let w' : in_way i (op_of (s.requests i)) j (ended (the_way z s u) (s.copies l) j) ≡ true =
-                  rw (same_op i hi g.0, c_is) at w in
-                  omega (
-                    arith,
-                    ap (timer Critical) c_is,
-                    k≤m,
-                    timer_kept i j k (op_of (s.requests i)) (the_way z s u) (s.copies l)
-                        (λ v. x i j (suc b) hi y.1 (omega arith) v) w',
-                  )
-            ]
+            | inl y ↦ grant_over s u i j k m (op_of (s.requests i)) (omega (arith, new_timer)) k≤m
+                (λ v. x i j (suc b) hi y.1 (omega arith) v) (rw (same_op i hi g.0) at w)
             | inr y ↦ absurd (y.0 refl)
           ]
 
       there : (l' a k : ℕ) → l' ≢ l → OverIn z s l' a k → OverIn z s' l' a k
-      there l' a k d x i j b hi f ba w =
-          let g = from i l' b hi f in
-          elim g.1 [
-            | inl y ↦ absurd (d (sym y.0))
-            | inr y ↦
-                let c_is = grant_there z s u l' j d in
-                let w' : in_way i (op_of (s.requests i)) j (s.copies l' j) ≡ true = rw (same_op i hi g.0, c_is) at w in
-                omega (arith, ap (timer Critical) c_is, x i j b hi y.1 ba w')
-          ]
+      there l' a k d x i j b hi f ba w = grind (arith, from i l' b hi f, same_op i hi, grant_there z s u l' j, x i j b hi)
 
       at : (i : ℕ) → i < z.critical
           → DueIn z caps 1 s'.copies s'.requests (next_owner z.critical s.owner) i ((grant z s u).requests i)
       at i a = elim (cases_eq i u) [
         | inl same ↦ rw (same, grant_user z s u) tt
         | inr ne ↦ rw (rest i a ne)
-            (due_grant C D B z.cores caps.critical (OverIn z s) (OverIn z s') (seats s) (seats s') s.owner l
+            (due_grant z.critical (gap z caps) (bound z.critical caps) z.cores caps.critical (OverIn z s) (OverIn z s') (seats s) (seats s') s.owner l
             r.in_turn.owner_critical (fit.some_caps Critical) (omega arith) r.queues q' (ap (seats s) (sym is_owner) ∙ e)
             (λ j b d. rest_seat j b (rw (← is_owner) at d))
             here there
@@ -175,25 +140,20 @@ module _ (z : Sizes) (caps : Caps) (fit : Fit z caps) where
       free_owner = free_unseated (s.requests s.owner) idle
 
       none_here : (l' b j : ℕ) → j < z.critical → seats s j ≡ seated l' b → l' ≢ l
-      none_here l' b j a e same = omega (arith, r.queues.inside l b j a (e ∙ ap (λ x. seated x b) same), queue_seats z s l, empty)
+      none_here l' b j a e same = grind (arith, r.queues.inside l b j, queue_seats z s l, empty)
 
       keep : (l' j : ℕ) → j < z.critical → seats s j ≡ seated l' 0 → seats s' j ≡ seated l' 0
       keep l' j a e = ap seat_of (rest j a) ∙ e
 
       longer : (l' b n i : ℕ) → i < z.critical → seats s i ≡ seated l' b → OverIn z s l' b n → OverIn z s' l' b n
-      longer l' b n i a e x k j b' hk f le w =
-          let c_is = grant_there z s u l' j (none_here l' b i a e) in
-          let w' : in_way k (op_of (s.requests k)) j (s.copies l' j) ≡ true = rw (ap op_of (rest k hk), c_is) at w in
-          omega (arith, ap (timer Critical) c_is, x k j b' hk (sym (ap seat_of (rest k hk)) ∙ f) le w')
+      longer l' b n i a e x k j b' hk f le w = grind (arith, none_here l' b i a e, grant_there z s u l' j, rest k hk, x k j b' hk)
 
       not_yet : (l' b : ℕ) → seats s' s.owner ≡ seated l' 0 → OverIn z s' l' b (0 + 0) → ⊥
-      not_yet l' b e t =
-          let o : seats s' s.owner ≡ seats s s.owner = ap seat_of (rest s.owner r.in_turn.owner_critical) in
-          never (cc free_owner)
+      not_yet l' b e t = grind (arith, rest s.owner r.in_turn.owner_critical)
 
       at : (i : ℕ) → i < z.critical
           → DueIn z caps 1 s'.copies s'.requests (next_owner z.critical s.owner) i ((grant z s u).requests i)
-      at i a = rw (rest i a) (due_pass C D B (OverIn z s') (seats s') s.owner i not_yet (s.requests i)
+      at i a = rw (rest i a) (due_pass z.critical (gap z caps) (bound z.critical caps) (OverIn z s') (seats s') s.owner i not_yet (s.requests i)
           (λ w f e. let x : is_waiting (s.requests s.owner) ≡ true = rw e at w in never cc)
-          (due_map C D B 0 (OverIn z s) (OverIn z s') (seats s) (seats s') s.owner i keep (s.requests i)
+          (due_map z.critical (gap z caps) (bound z.critical caps) 0 (OverIn z s) (OverIn z s') (seats s) (seats s') s.owner i keep (s.requests i)
           (λ l' b n e x. longer l' b n i a e x) (r.due i a)))

@@ -49,10 +49,9 @@ module _ (z : Sizes) (caps : Caps) (fit : Fit z caps) where
 
       not_yet : is_granted z s u ≡ false → (l a : ℕ) → seats s s.owner ≡ seated l 0 → OverIn z s l a (0 + 0) → ⊥
       not_yet no_grant l a e t =
-          let f = is_first_from (s.requests u) l (ap (seats s) is_owner ∙ e) in
-          let yes_grant = granted_from s u h f.0
-          (λ j w. rw f.1 (omega (arith, t u j 0 h (ap (seats s) is_owner ∙ e) (omega arith) (rw f.1 at w)))) in
-          never cc
+          let over : (j : ℕ) → seats s u ≡ seated l 0 → in_way u (op_of (s.requests u)) j (s.copies l j) ≡ true → timers s l j ≤ 0 =
+          λ j f w. t u j 0 h f (omega arith) w in
+          grind (arith, is_first_from (s.requests u) l, granted_from s u h, over)
 
       go : (t : Bool) → is_granted z s u ≡ t → Ready z caps 1 (tried z t s u).state
       go true e = ready_granted z caps fit s u is_owner (granted_first s u e) r
