@@ -1,15 +1,15 @@
 -- A grant keeps the lines coherent.
-use Rattle.std.proofs.Common.{◌≡◌, ℕ, ◌<◌, true, ◌≢◌, length, get_or, refl, ap, ◌∙◌, inl, inr, arith}
+use Rattle.std.proofs.Common.{◌≡◌, ℕ, ◌<◌, true, ◌≢◌, length, get_or, refl, ap, inl, inr, arith}
 use Rattle.std.proofs.lemmas.Bool.{eq-eqb, cases_eq}
 use Rattle.machine.specs.declared.op.Op.{Op}
 use Rattle.machine.specs.declared.op.Op.TheVariants.{Read, Write}
 use Rattle.machine.specs.declared.sizes.Sizes.{Sizes}
 use Rattle.machine.specs.Grant.{words_after, granted_word, grant}
 use Rattle.machine.specs.Parts.{is_writers, is_waiting, op_of}
-use Rattle.machine.specs.State.{State, class_of}
+use Rattle.machine.specs.State.{State}
 use Rattle.machine.proofs.Coherence.{nothing, writes, Line, line_same, line_writer, line_reader}
 use Rattle.machine.proofs.Grants.{the_line, the_way, grant_there, grant_new, grant_rest, grant_user, grant_others}
-use Rattle.machine.proofs.Shapes.{shape, wish_of, shapes, wishes, Good, shape_writer, writer_shape, up_wish, waiting_wish}
+use Rattle.machine.proofs.Shapes.{shape, wish_of, shapes, wishes, Good, shape_writer, writer_shape, waiting_wish}
 use Rattle.machine.proofs.Wishes.{no_wish, wish, answer, after_answer}
 use Rattle.machine.proofs.WriteBack.{write_back_length, write_back_other, write_back_word}
 
@@ -46,7 +46,7 @@ module _ (z : Sizes) (s : State) (u : ℕ) (last : ℕ → ℕ) (g : Good z s la
 
 
   pub grant_wish : (i : ℕ) → i ≢ u → wishes (grant z s u) i ≡ wishes s i
-  grant_wish i ne = ap wish_of (grant_others z s u i ne) ∙ up_wish z (class_of z u) (the_line z s u) i (s.requests i)
+  grant_wish i ne = grind (arith, grant_others z s u i ne)
 
   pub grant_wish_user : wishes (grant z s u) u ≡ no_wish
   grant_wish_user = ap wish_of (grant_user z s u)

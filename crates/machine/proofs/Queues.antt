@@ -1,6 +1,6 @@
 -- The critical requests in order on each line: who sits where. There are c critical cores among n.
-use Rattle.std.proofs.Common.{◌≡◌, ℕ, suc, ◌-◌, ◌<◌, ◌≤◌, Bool, true, false, cond, ◌&&◌, eqb, ltb, ◌≢◌, ◌⊎◌, sym, refl, ap, ◌∙◌, inl, inr, arith}
-use Rattle.std.proofs.lemmas.Bool.{eq-eqb, ne_eqb, cases_lt, and_parts, and_right, lt-ltb, ltb-true, eqb-true}
+use Rattle.std.proofs.Common.{◌≡◌, ℕ, suc, ◌-◌, ◌<◌, ◌≤◌, Bool, false, cond, ◌&&◌, eqb, ltb, ◌≢◌, ◌⊎◌, sym, refl, ap, ◌∙◌, inl, inr, arith}
+use Rattle.std.proofs.lemmas.Bool.{eq-eqb, ne_eqb, cases_lt, eqb-true}
 use Rattle.std.proofs.lemmas.Bool.Decides.{nat_tests}
 use Rattle.machine.specs.Places.{count_below}
 use Rattle.machine.proofs.Counting.{never, count_same, count_one_less, count_none, count_missed}
@@ -46,11 +46,7 @@ module _ (c n : ℕ) where
     pub inside : (l a j : ℕ) → j < c → S j ≡ seated l a → a < len S l
     pub apart : (l a i j : ℕ) → i < c → j < c → S i ≡ seated l a → S j ≡ seated l a → i ≡ j
 
-sits_yes : (c : ℕ) (S : ℕ → Seat) (l a k : ℕ) → k < c → S k ≡ seated l a → ltb k c && on l (S k) ≡ true
-sits_yes c S l a k h e = rw (lt-ltb k c h, e, eq-eqb l l refl)
 
-sits_no : (c : ℕ) (t : Seat) (l k : ℕ) → on l t ≡ false → ltb k c && on l t ≡ false
-sits_no c t l k e = and_right (ltb k c) (on l t) e
 
 -- nothing changes where no critical core's seat does
 len_same : (c n : ℕ) (S S' : ℕ → Seat) (l : ℕ) → ((j : ℕ) → j < c → on l (S' j) ≡ on l (S j)) → len c n S' l ≡ len c n S l
@@ -79,13 +75,12 @@ queues_none c n =
     }
   where
     empty : (l : ℕ) → len c n (λ j. unseated) l ≡ 0
-    empty l = count_none (sits c n (λ j. unseated) l) n (λ k. sits_no c unseated l k refl)
+    empty l = count_none (sits c n (λ j. unseated) l) n (λ k. grind arith)
 
 -- fewer sit on a line than there are, where one sits nowhere
 pub len_missed : (c n : ℕ) (S : ℕ → Seat) (l u : ℕ) → u < c → S u ≡ unseated → len c n S l < c
 unfolding len
-len_missed c n S l u h e =
-    count_missed (sits c n S l) c u n (λ k t. ltb-true k c (and_parts (ltb k c) (on l (S k)) t).0) h (sits_no c (S u) l u (rw e))
+len_missed c n S l u h e = count_missed (sits c n S l) c u n (λ k t. grind (arith, nat_tests)) h (grind arith)
 
 -- a core that sits nowhere takes the last seat of a line
 module _ (c n : ℕ) (c≤n : c ≤ n) (S S' : ℕ → Seat) (u l : ℕ) (u<c : u < c)
@@ -93,14 +88,12 @@ module _ (c n : ℕ) (c≤n : c ≤ n) (S S' : ℕ → Seat) (u l : ℕ) (u<c : 
   join_len : len c n S' l ≡ suc (len c n S l)
   unfolding len
   join_len =
-      count_one_less (sits c n S' l) (sits c n S l) u n (omega arith) (sits_yes c S' l (len c n S l) u u<c now_is)
-      (sits_no c (S u) l u (rw was)) (λ k ne. rw (rest k ne))
+      count_one_less (sits c n S' l) (sits c n S l) u n (omega arith) (grind (arith, nat_tests)) (grind (arith, nat_tests))
+      (λ k ne. rw (rest k ne))
 
   join_len_other : (l' : ℕ) → l ≢ l' → len c n S' l' ≡ len c n S l'
   join_len_other l' ne = len_same c n S S' l' (λ j _. grind (arith, nat_tests, rest j))
 
-  not_user : (j l' a : ℕ) → S j ≡ seated l' a → j ≢ u
-  not_user j l' a e same = never cc
 
   join_from : (j l' a : ℕ) → S' j ≡ seated l' a
       → ((j ≡ u) × (l ≡ l') × (a ≡ len c n S l)) ⊎ ((j ≢ u) × (S j ≡ seated l' a))
@@ -136,8 +129,8 @@ module _ (c n : ℕ) (c≤n : c ≤ n) (S S' : ℕ → Seat) (u l : ℕ) (u<c : 
   leave_len : len c n S l ≡ suc (len c n S' l)
   unfolding len
   leave_len =
-      count_one_less (sits c n S l) (sits c n S' l) u n (omega arith) (sits_yes c S l 0 u u<c was)
-      (sits_no c (S' u) l u (rw now_is)) (λ k ne. grind (arith, nat_tests, rest k, on_up l l (S k)))
+      count_one_less (sits c n S l) (sits c n S' l) u n (omega arith) (grind (arith, nat_tests)) (grind (arith, nat_tests))
+      (λ k ne. grind (arith, nat_tests, rest k, on_up l l (S k)))
 
   leave_len_other : (l' : ℕ) → l ≢ l' → len c n S' l' ≡ len c n S l'
   leave_len_other l' ne = len_same c n S S' l' (λ j a. grind (arith, nat_tests, rest j, on_up l l' (S j)))

@@ -1,8 +1,8 @@
 -- A request that waits goes on waiting and counts the slots, until a done slot of its core.
-use Rattle.std.proofs.Common.{◌≡◌, ℕ, suc, ◌+◌, min, true, cond, ◌≢◌, ◌⊎◌, [], ◌∷◌, ◌++◌, sym, subst, inl, inr, arith}
+use Rattle.std.proofs.Common.{◌≡◌, ℕ, suc, min, true, cond, ◌≢◌, ◌⊎◌, [], ◌∷◌, ◌++◌, sym, subst, inl, inr, arith}
 use Rattle.std.proofs.lemmas.Bool.{eqb-true}
 use Rattle.machine.specs.declared.call.Call.{Call}
-use Rattle.machine.specs.declared.call.Call.TheVariants.{Ask, Slot, Settle, WordOf, StateOf, BoundOf}
+use Rattle.machine.specs.declared.call.Call.TheVariants.{Ask, Slot}
 use Rattle.machine.specs.declared.op.Op.{Op}
 use Rattle.machine.specs.declared.request.Request.{Request}
 use Rattle.machine.specs.declared.sizes.Sizes.{Sizes}
@@ -20,7 +20,6 @@ use Rattle.machine.specs.Settling.{settling}
 use Rattle.machine.specs.Slot.{end_slot, try_user, slotting}
 use Rattle.machine.specs.State.{State}
 use Rattle.machine.specs.Time.{tick_wait, tick}
-use Rattle.machine.proofs.Asks.{unless_same}
 use Rattle.machine.proofs.Effects.{effect, is_served, served_now}
 use Rattle.machine.proofs.Histories.{earlier}
 
@@ -56,16 +55,7 @@ module _ (z : Sizes) (i : ℕ) where
       → (is_served i (effect c (step z c s).reply) ≡ true)
       ⊎ Still ((step z c s).state.requests i) (min (cond (is_slot c) (suc n) n) 4294967295)
   unfolding settling telling_word telling_state
-  still_step s (Ask j l o) n x = inr (still_ask s j l (min n 4294967295) o x)
-  still_step s Slot n x =
-      elim (still_slot s (min n 4294967295) x) [
-        | inl e ↦ inl e
-        | inr y ↦ inr (let e : min (min n 4294967295 + 1) 4294967295 ≡ min (suc n) 4294967295 = omega arith in rw e at y)
-      ]
-  still_step s Settle n x = inr x
-  still_step s (WordOf l) n x = inr (subst (λ t. Still (t.requests i) (min n 4294967295)) (sym (unless_same _ _ s)) x)
-  still_step s (StateOf j l) n x = inr (subst (λ t. Still (t.requests i) (min n 4294967295)) (sym (unless_same _ _ s)) x)
-  still_step s BoundOf n x = inr x
+  still_step s c n x = grind (arith, still_ask, still_slot s (min n 4294967295) x)
 
 -- an ask that is told to wait leaves a request that has waited for 0 slots
 still_new : (z : Sizes) (s : State) (i l : ℕ) (o : Op) → waits ≡ (asking z i l o s).reply

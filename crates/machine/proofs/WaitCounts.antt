@@ -1,30 +1,25 @@
 -- Waits are counted in slots.
-use Rattle.std.proofs.Common.{◌≡◌, ℕ, min, ◌∷◌, ap, ◌∙◌, subst, inl, inr, arith}
+use Rattle.std.proofs.Common.{◌≡◌, ℕ, min, ◌∷◌, ◌∙◌, subst, inl, inr, arith}
 use Rattle.machine.specs.declared.call.Call.TheVariants.{Slot}
 use Rattle.machine.specs.declared.op.Role.{Role}
 use Rattle.machine.specs.declared.request.Request.{Request}
 use Rattle.machine.specs.declared.sizes.Sizes.{Sizes}
 use Rattle.machine.specs.Arbitration.{move_mark}
 use Rattle.machine.specs.History.{sizes, event, From, slots}
-use Rattle.machine.specs.Order.{ordered_behind, queue_length, order}
-use Rattle.machine.specs.Parts.{line_of, wait_of}
+use Rattle.machine.specs.Order.{order}
+use Rattle.machine.specs.Parts.{wait_of}
 use Rattle.machine.specs.Replies.{done}
 use Rattle.machine.specs.Slot.{try_user, slotting}
-use Rattle.machine.specs.State.{State, class_of}
+use Rattle.machine.specs.State.{State}
 use Rattle.machine.specs.Time.{tick_wait, tick_request, tick}
 use Rattle.machine.specs.WaitCounts.{WaitsAreCountedInSlots}
-use Rattle.machine.proofs.Counting.{put_same}
 use Rattle.machine.proofs.Histories.{earlier, cut}
 use Rattle.machine.proofs.StillWaiting.{Still, still_from}
 
-ordered_wait : (n : ℕ) (r : Request) → wait_of (ordered_behind n r) ≡ wait_of r
-ordered_wait n r = grind arith
 
 order_wait : (z : Sizes) (s : State) (u : ℕ) → wait_of ((order z s u).requests u) ≡ wait_of (s.requests u)
 unfolding order
-order_wait z s u =
-    let n : ℕ = queue_length z s (class_of z u) (line_of (s.requests u)) in
-    ap wait_of (put_same u (ordered_behind n (s.requests u)) s.requests) ∙ ordered_wait n (s.requests u)
+order_wait z s u = grind arith
 
 -- a done slot reports the wait of its user's request, once time has passed
 done_wait : (z : Sizes) (s : State) (owner u l w n : ℕ) (k : Role) → done owner u l k w n ≡ (slotting z s).reply
