@@ -14,35 +14,19 @@ use Rattle.machine.specs.Slot.{end_slot}
 use Rattle.machine.specs.State.{State, class_of}
 use Rattle.machine.proofs.Counting.{never}
 use Rattle.machine.proofs.Due.{due_map, due_pass, due_grant}
-use Rattle.machine.proofs.Grants.{the_line, the_way, grant_there, grant_new, grant_rest, grant_user, grant_others}
+use Rattle.machine.proofs.Grants.{the_line, grant_there, grant_new, grant_rest, grant_user, grant_others}
 use Rattle.machine.proofs.Owners.{next_owner}
 use Rattle.machine.proofs.Queues.{unseated, seated, up, Queues, queues_same, leave_from, leave}
-use Rattle.machine.proofs.Ready.{timers, seats, OverIn, Fit, gap, longest_hold, DueIn, Ready, queue_seats, class_critical, class_other, timed_later, turn_after, hold_small}
+use Rattle.machine.proofs.Ready.{timers, seats, OverIn, Fit, gap, longest_hold, DueIn, Ready, queue_seats, class_critical, class_other, hold_small}
 use Rattle.machine.proofs.Seats.{seat_of, raised, raised_seat, raised_op, free_unseated, up_critical, up_other}
-use Rattle.machine.proofs.Timers.{timer_ended, timer_kept}
+use Rattle.machine.proofs.ReadySteps.{ready_next}
 
 module _ (z : Sizes) (caps : Caps) (fit : Fit z caps) where
   -- after a grant: the new timer, and those of its line, and no other
   grant_here : (s : State) (u m : ℕ) → s.timing.hold 0 u (class_of z u) (the_line z s u) Critical ≤ m
       → (j : ℕ) → timers (grant z s u) (the_line z s u) j ≤ max (timers s (the_line z s u) j) m
   unfolding loaded
-  grant_here s u m h j = grind (arith, grant_new z s u, grant_rest z s u j, timer_ended)
-
-  ready_after : (s : State) (u : ℕ) → Ready z caps 0 s → ((l j : ℕ) → timers (grant z s u) l j ≤ longest_hold z caps)
-      → Queues z.critical z.cores (seats (grant z s u))
-      → ((i : ℕ) → i < z.critical
-      → DueIn z caps 1 (grant z s u).copies (grant z s u).requests (next_owner z.critical s.owner) i
-      ((grant z s u).requests i))
-      → Ready z caps 1 (end_slot z (grant z s u))
-  unfolding end_slot grant
-  ready_after s u r c q d =
-      record {
-        in_turn = turn_after z caps fit s.owner s.mark r.in_turn;
-        timed = timed_later caps s.timing r.timed;
-        capped = λ l j. omega (arith, c l j, fit.some_caps Critical);
-        queues = q;
-        due = d;
-      }
+  grant_here s u m h j = grind (arith, grant_new z s u, grant_rest z s u j)
 
   grant_capped : (s : State) (u : ℕ) → Ready z caps 0 s → (l j : ℕ) → timers (grant z s u) l j ≤ longest_hold z caps
   grant_capped s u r l j =
@@ -54,12 +38,13 @@ module _ (z : Sizes) (caps : Caps) (fit : Fit z caps) where
       → in_way i o j ((grant z s u).copies (the_line z s u) j) ≡ true → timers (grant z s u) (the_line z s u) j ≤ m
   unfolding loaded
   grant_over s u i j k m o h le over w =
-      grind (arith, grant_new z s u, grant_rest z s u j, timer_kept i j k o (the_way z s u) (s.copies (the_line z s u)) over)
+      grind (arith, grant_new z s u, grant_rest z s u j)
 
   -- the owner's request is granted
   pub ready_granted : (s : State) (u : ℕ) → u ≡ s.owner → seats s u ≡ seated (the_line z s u) 0 → Ready z caps 0 s
       → Ready z caps 1 (end_slot z (grant z s u))
-  ready_granted s u is_owner e r = ready_after s u r (grant_capped s u r) q' (λ i h. at i h)
+  unfolding grant
+  ready_granted s u is_owner e r = ready_next z caps fit s' r.in_turn r.timed (grant_capped s u r) q' (λ i h. at i h)
     where
       h : u < z.critical
       h = rw is_owner r.in_turn.owner_critical
@@ -122,7 +107,8 @@ module _ (z : Sizes) (caps : Caps) (fit : Fit z caps) where
   pub ready_granted_other : (s : State) (u : ℕ) → z.critical ≤ u → queue_length z s Critical (the_line z s u) ≡ 0
       → is_waiting (s.requests s.owner) ≡ false
       → Ready z caps 0 s → Ready z caps 1 (end_slot z (grant z s u))
-  ready_granted_other s u h empty idle r = ready_after s u r (grant_capped s u r) q' (λ i h. at i h)
+  unfolding grant
+  ready_granted_other s u h empty idle r = ready_next z caps fit s' r.in_turn r.timed (grant_capped s u r) q' (λ i h. at i h)
     where
       s' : State
       s' = grant z s u

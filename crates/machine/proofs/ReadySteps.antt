@@ -18,11 +18,10 @@ use Rattle.machine.specs.State.{State, class_of, with_request}
 use Rattle.machine.specs.Time.{tick}
 use Rattle.machine.proofs.Counting.{never, put_same, put_other, put_all}
 use Rattle.machine.proofs.Due.{due_map, due_tick, due_asked, due_pass, due_ordered}
-use Rattle.machine.proofs.Owners.{owner_in}
+use Rattle.machine.proofs.Owners.{next_owner, owner_in}
 use Rattle.machine.proofs.Queues.{unseated, seated, sits, Queues, queues_same, len_missed, join}
-use Rattle.machine.proofs.Ready.{class_critical, seats, OverIn, Fit, gap, longest_hold, DueIn, Ready, queue_seats, timed_later, turn_after}
-use Rattle.machine.proofs.Seats.{seat_of, tick_op, tick_seat, free_unseated}
-use Rattle.machine.proofs.Timers.{tick_timer, tick_way}
+use Rattle.machine.proofs.Ready.{timers, InTurn, Timed, DueIn, class_critical, seats, OverIn, Fit, gap, longest_hold, DueIn, Ready, queue_seats, timed_later, turn_after}
+use Rattle.machine.proofs.Seats.{seat_of, free_unseated}
 
 put_id : {A : Type 0} (i : ℕ) (f : ℕ → A) → put i (f i) f ≡ f
 put_id i f = fun_ext (λ j. put_all (λ k x. x ≡ f k) i (f i) f refl (λ k _. refl) j)
@@ -34,15 +33,14 @@ module _ (z : Sizes) (caps : Caps) (fit : Fit z caps) where
       record {
         in_turn = r.in_turn;
         timed = r.timed;
-        capped = λ l j. omega (arith, tick_timer Critical (s.copies l j), r.capped l j);
-        queues = queues_same z.critical z.cores (seats s) (seats (tick s)) (λ j _. tick_seat (s.requests j)) r.queues;
+        capped = λ l j. grind (arith, r.capped l j);
+        queues = queues_same z.critical z.cores (seats s) (seats (tick s)) (λ j _. grind arith) r.queues;
         due = λ i h. due_tick z.critical (gap z caps) (bound z.critical caps) (OverIn z s) (OverIn z (tick s)) (seats s) (seats (tick s)) s.owner i
-            (λ l a n h i j b hi e ba w. fall l a n h i j b hi e ba w) (λ j. tick_seat (s.requests j)) (s.requests i) (r.due i h);
+            (λ l a n h i j b hi e ba w. fall l a n h i j b hi e ba w) (λ j. grind arith) (s.requests i) (r.due i h);
       }
     where
       fall : (l a n : ℕ) → OverIn z s l a (n + 1) → OverIn z (tick s) l a (n + 0)
-      fall l a n h i j b hi e ba w =
-          grind (arith, tick_seat (s.requests i), tick_op (s.requests i), tick_way j i, tick_timer Critical (s.copies l j), h i j b hi)
+      fall l a n h i j b hi e ba w = grind (arith, h i j b hi)
 
   pub ready_mark : (s : State) (u : ℕ) → Ready z caps 0 s → Ready z caps 0 (move_mark z s u)
   unfolding move_mark
@@ -177,17 +175,27 @@ module _ (z : Sizes) (caps : Caps) (fit : Fit z caps) where
       otherwise h = ready_other 0 s u (ordered_behind (queue_length z s (class_of z u) (line_of (s.requests u))) (s.requests u)) h r
 
   -- the slot ends and its owner was not granted anything
+  -- the slot ends
+  pub ready_next : (s : State) → InTurn z s.owner s.mark → Timed caps s.timing → ((l j : ℕ) → timers s l j ≤ longest_hold z caps)
+      → Queues z.critical z.cores (seats s)
+      → ((i : ℕ) → i < z.critical → DueIn z caps 1 s.copies s.requests (next_owner z.critical s.owner) i (s.requests i))
+      → Ready z caps 1 (end_slot z s)
+  unfolding end_slot
+  ready_next s in_turn timed capped queues due =
+      record {
+        in_turn = turn_after z caps fit s.owner s.mark in_turn;
+        timed = timed_later caps s.timing timed;
+        capped = λ l j. omega (arith, capped l j, fit.some_caps Critical);
+        queues = queues;
+        due = due;
+      }
+
+  -- .. and its owner was not granted anything
   pub ready_end : (s : State) → Ready z caps 0 s
       → ((l a : ℕ) → seats s s.owner ≡ seated l 0 → OverIn z s l a (0 + 0) → ⊥)
       → (is_waiting (s.requests s.owner) ≡ true → seats s s.owner ≡ unseated → ⊥)
       → Ready z caps 1 (end_slot z s)
-  unfolding end_slot
   ready_end s r not_yet sits =
-      record {
-        in_turn = turn_after z caps fit s.owner s.mark r.in_turn;
-        timed = timed_later caps s.timing r.timed;
-        capped = λ l j. omega (arith, r.capped l j);
-        queues = r.queues;
-        due = λ i h. due_pass z.critical (gap z caps) (bound z.critical caps) (OverIn z s) (seats s) s.owner i not_yet (s.requests i)
-            (λ w f e. sits (rw e at w) (rw e at f)) (r.due i h);
-      }
+      ready_next s r.in_turn r.timed (λ l j. omega (arith, r.capped l j, fit.some_caps Critical)) r.queues
+      (λ i h. due_pass z.critical (gap z caps) (bound z.critical caps) (OverIn z s) (seats s) s.owner i not_yet (s.requests i)
+      (λ w f e. sits (rw e at w) (rw e at f)) (r.due i h))
