@@ -1,12 +1,12 @@
 -- What a waiting request of a critical core is due: by when it will be granted at the latest.
-use Rattle.std.proofs.Common.{◌≡◌, ℕ, suc, ◌+◌, ◌-◌, ◌*◌, ◌<◌, ◌≤◌, max, true, ◌≢◌, sym, refl, ap, ◌∙◌, subst, ap₂, inl, inr, mul-le-mul_right, arith}
+use Rattle.std.proofs.Common.{◌≡◌, ℕ, suc, ◌+◌, ◌-◌, ◌*◌, ◌<◌, ◌≤◌, max, true, ◌≢◌, sym, refl, ap, ◌∙◌, subst, inl, inr, mul-le-mul_right, arith}
 use Rattle.std.proofs.lemmas.Bool.{eq-eqb, ne_eqb, cases_eq}
 use Rattle.machine.specs.declared.request.Request.{Request}
 use Rattle.machine.specs.declared.request.Request.TheVariants.{Free, Asked, Ordered}
 use Rattle.machine.specs.Parts.{is_waiting}
 use Rattle.machine.specs.Time.{tick_wait, tick_request}
 use Rattle.machine.proofs.Owners.{next_owner, owner_sooner, next_below, owner_in, owner_reaches, owner_reaches_from}
-use Rattle.machine.proofs.Queues.{Seat, unseated, seated, up, up_here, up_there, Queues}
+use Rattle.machine.proofs.Queues.{Seat, unseated, seated, up, Queues}
 use Rattle.machine.proofs.Seats.{seat_of, raised}
 
 -- There are c critical cores; from one grant on a line to the next it takes at most D slots, and all must be done within B. The seats of
@@ -140,7 +140,7 @@ module _ (c D B : ℕ) where
     due_elsewhere l' a w ne x =
         track_pass (K l' a) (K' l' a) S S' o l' a w x
         (λ z. not_owner (sym x.owns ∙ ap (λ n. owner_in c n o) z))
-        (rest x.head x.is_critical not_owner ∙ (ap (up l) x.first ∙ up_there l l' 0 ne)) (λ n. there l' a n ne)
+        (grind (arith, rest x.head, x.first, x.is_critical, not_owner)) (λ n. there l' a n ne)
       where
         not_owner : x.head ≢ o
         not_owner e = grind (arith, x.first)
@@ -153,8 +153,8 @@ module _ (c D B : ℕ) where
     due_grant i hi ne (Ordered l' p a w) e x =
         elim (cases_eq l' l) [
           | inl same ↦
-              let some : a ≢ 0 = λ z. ne (queues.apart l 0 i o hi o<c (e ∙ ap₂ seated same z) was) in
+              let some : a ≢ 0 = λ z. grind (arith, queues.apart l 0 i o, e) in
               rw (eq-eqb l' l same, same) (due_next i a (a - 1) w hi (omega arith)
-                  (rest i hi ne ∙ (ap (up l) (e ∙ ap (λ v. seated v a) same) ∙ up_here l a)) (rw same at x))
+                  (grind (arith, rest i, e)) (rw same at x))
           | inr d ↦ rw (ne_eqb l' l d) (due_elsewhere l' a w d x)
         ]

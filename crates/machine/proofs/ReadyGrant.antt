@@ -1,6 +1,7 @@
 -- A grant keeps a hub ready.
 use Rattle.std.proofs.Common.{◌≡◌, ℕ, suc, ◌+◌, ◌<◌, ◌≤◌, max, true, false, ◌≢◌, ◌⊎◌, sym, refl, ap, ◌∙◌, inl, inr, arith}
 use Rattle.std.proofs.lemmas.Bool.{cases_eq}
+use Rattle.std.proofs.lemmas.Bool.Decides.{nat_tests}
 use Rattle.setup.specs.Bound.{Caps, bound}
 use Rattle.setup.specs.Classes.{of_class}
 use Rattle.setup.specs.declared.class.Class.TheVariants.{Critical}
@@ -18,7 +19,7 @@ use Rattle.machine.proofs.Grants.{the_line, grant_there, grant_new, grant_rest, 
 use Rattle.machine.proofs.Owners.{next_owner}
 use Rattle.machine.proofs.Queues.{unseated, seated, up, Queues, queues_same, leave_from, leave}
 use Rattle.machine.proofs.Ready.{timers, seats, OverIn, Fit, gap, longest_hold, DueIn, Ready, queue_seats, class_critical, class_other, hold_small}
-use Rattle.machine.proofs.Seats.{seat_of, raised, raised_seat, raised_op, free_unseated, up_critical, up_other}
+use Rattle.machine.proofs.Seats.{seat_of, raised}
 use Rattle.machine.proofs.ReadySteps.{ready_next}
 
 module _ (z : Sizes) (caps : Caps) (fit : Fit z caps) where
@@ -59,10 +60,10 @@ module _ (z : Sizes) (caps : Caps) (fit : Fit z caps) where
       leaves = ap seat_of (grant_user z s u)
 
       rest : (j : ℕ) → j < z.critical → j ≢ u → (grant z s u).requests j ≡ raised l (s.requests j)
-      rest j a ne = grant_others z s u j ne ∙ rw (class_critical z u h) (up_critical z l j (s.requests j) a)
+      rest j a ne = grind (arith, grant_others z s u j, class_critical z u h, nat_tests)
 
       rest_seat : (j : ℕ) → j < z.critical → j ≢ u → seats s' j ≡ up l (seats s j)
-      rest_seat j a ne = ap seat_of (rest j a ne) ∙ raised_seat l (s.requests j)
+      rest_seat j a ne = grind (arith, rest j)
 
       q' : Queues z.critical z.cores (seats s')
       q' = leave z.critical z.cores fit.few_critical (seats s) (seats s') u l h e leaves rest_seat r.queues
@@ -77,7 +78,7 @@ module _ (z : Sizes) (caps : Caps) (fit : Fit z caps) where
           l' b hi x
 
       same_op : (i : ℕ) → i < z.critical → i ≢ u → op_of ((grant z s u).requests i) ≡ op_of (s.requests i)
-      same_op i a ne = ap op_of (rest i a ne) ∙ raised_op l (s.requests i)
+      same_op i a ne = grind (arith, rest i)
 
       here : (a k m : ℕ) → OverIn z s l (suc a) k → k ≤ m → caps.critical ≤ m → OverIn z s' l a m
       here a k m x k≤m h≤m i j b hi f ba w =
@@ -117,13 +118,13 @@ module _ (z : Sizes) (caps : Caps) (fit : Fit z caps) where
       l = the_line z s u
 
       rest : (j : ℕ) → j < z.critical → (grant z s u).requests j ≡ s.requests j
-      rest j a = grant_others z s u j (omega arith) ∙ rw (class_other z u h) (up_other z l j (s.requests j) a)
+      rest j a = grind (arith, grant_others z s u j, class_other z u h, nat_tests)
 
       q' : Queues z.critical z.cores (seats s')
       q' = queues_same z.critical z.cores (seats s) (seats s') (λ j a. ap seat_of (rest j a)) r.queues
 
       free_owner : seats s s.owner ≡ unseated
-      free_owner = free_unseated (s.requests s.owner) idle
+      free_owner = grind arith
 
       none_here : (l' b j : ℕ) → j < z.critical → seats s j ≡ seated l' b → l' ≢ l
       none_here l' b j a e same = grind (arith, r.queues.inside l b j, queue_seats z s l, empty)

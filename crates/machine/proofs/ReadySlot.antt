@@ -17,14 +17,14 @@ use Rattle.machine.proofs.Queues.{unseated, seated}
 use Rattle.machine.proofs.Ready.{timers, seats, OverIn, Fit, Ready, class_critical, class_other}
 use Rattle.machine.proofs.ReadyGrant.{ready_granted, ready_granted_other}
 use Rattle.machine.proofs.ReadySteps.{ready_tick, ready_mark, ready_order, ready_end}
-use Rattle.machine.proofs.Seats.{free_unseated, first_seat, is_first_from}
+use Rattle.machine.proofs.Seats.{free_unseated, is_first_from}
 use Rattle.machine.proofs.Users.{user_waits, user_is, user_none}
 
 module _ (z : Sizes) (caps : Caps) (fit : Fit z caps) where
   -- what the test for a grant says
   granted_first : (s : State) (u : ℕ) → is_granted z s u ≡ true → seats s u ≡ seated (the_line z s u) 0
   unfolding is_granted
-  granted_first s u t = grind (arith, first_seat)
+  granted_first s u t = grind (arith, eqb-true)
 
   granted_empty : (s : State) (u : ℕ) → z.critical ≤ u → is_granted z s u ≡ true → queue_length z s Critical (the_line z s u) ≡ 0
   unfolding is_granted

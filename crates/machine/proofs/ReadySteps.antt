@@ -36,7 +36,7 @@ module _ (z : Sizes) (caps : Caps) (fit : Fit z caps) where
         capped = λ l j. grind (arith, r.capped l j);
         queues = queues_same z.critical z.cores (seats s) (seats (tick s)) (λ j _. grind arith) r.queues;
         due = λ i h. due_tick z.critical (gap z caps) (bound z.critical caps) (OverIn z s) (OverIn z (tick s)) (seats s) (seats (tick s)) s.owner i
-            (λ l a n h i j b hi e ba w. fall l a n h i j b hi e ba w) (λ j. grind arith) (s.requests i) (r.due i h);
+            fall (λ j. grind arith) (s.requests i) (r.due i h);
       }
     where
       fall : (l a n : ℕ) → OverIn z s l a (n + 1) → OverIn z (tick s) l a (n + 0)
