@@ -14,7 +14,6 @@ use Rattle.machine.specs.Replies.{Reply, refused, hit}
 use Rattle.machine.specs.State.{State, Outcome, unchanged}
 use Rattle.machine.proofs.Counting.{never}
 
-
 ask_accepted : (z : Sizes) (i l : ℕ) (s : State) → ask_refusal z i l s ≡ None
     → (i < z.cores) × (l < z.lines) × (is_waiting (s.requests i) ≡ false)
 ask_accepted z i l s e = (grind (arith, nat_tests), grind (arith, nat_tests), grind arith)

@@ -16,8 +16,6 @@ no_writer nothing = nothing
 no_writer (reads x) = reads x
 no_writer (writes x) = nothing
 
-
-
 -- One line: n cores with their shapes, the memory's word, the last write's word ------------------
 
 pub record Line {V : Type 0} (n : ℕ) (X : ℕ → Shape V) (m last : V) : Type 0 where

@@ -39,7 +39,6 @@ pub record Kept (z : Sizes) (c : Call) (out : Outcome) (ws : ℕ → Wish) (last
   pub asks : (i : ℕ) → next_wish i (effect c out.reply) (ws i) ≡ wishes out.state i
   pub right : (i l w : ℕ) → answer_by ws (effect c out.reply) ≡ answer i l Read w → w ≡ last l
 
-
 module _ (z : Sizes) (ws : ℕ → Wish) (last : ℕ → ℕ) where
   -- where a call has no effect and leaves the state
   kept_same : (s : State) (c : Call) (out : Outcome) → effect c out.reply ≡ no_effect → out.state ≡ s → Good z s last
@@ -135,7 +134,6 @@ module _ (z : Sizes) (ws : ℕ → Wish) (last : ℕ → ℕ) where
   copy_last : (s : State) (j l : ℕ) (copy : Held) → s.copies l j ≡ Some copy → Good z s last → copy.word ≡ last l
   copy_last s j l copy was g = grind (arith, (g.line l).read_word j copy.word, (g.line l).write_word j copy.word)
 
-
   kept_ask : (s : State) (j l : ℕ) (o : Op) → Good z s last → ((i : ℕ) → ws i ≡ wishes s i) → Kept z (Ask j l o) (asking z j l o s) ws last
   kept_ask s j l o g e =
       ask_all z j l s (λ o out. Kept z (Ask j l o) out ws last)
@@ -157,10 +155,9 @@ module _ (z : Sizes) (ws : ℕ → Wish) (last : ℕ → ℕ) where
         | inl same ↦
             let none_here : (i x : ℕ) → shape (cs n i) ≡ writes x → ⊥ = rw same at none in
             rw same (write_back_word all_copies (cs n) n z.cores (settle_below z cs n m) _ (omega (arith, settle_length cs n m))
-                (λ k _ _ t. absurd (none_here k _ (shape_writer (cs n k) t))) (λ _. settle_at cs n m n (omega arith) none_here))
+            (λ k _ _ t. absurd (none_here k _ (shape_writer (cs n k) t))) (λ _. settle_at cs n m n (omega arith) none_here))
         | inr ne ↦ write_back_other all_copies (cs n) n z.cores (settle_below z cs n m) l ne ∙ settle_at cs n m l (omega arith) none
       ]
-
 
   kept_step : (s : State) (c : Call) → Good z s last → ((i : ℕ) → ws i ≡ wishes s i) → Kept z c (step z c s) ws last
   unfolding settling telling_word telling_state

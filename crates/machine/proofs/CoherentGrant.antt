@@ -13,9 +13,6 @@ use Rattle.machine.proofs.Shapes.{shape, wish_of, shapes, wishes, Good, shape_wr
 use Rattle.machine.proofs.Wishes.{no_wish, wish, answer, after_answer}
 use Rattle.machine.proofs.WriteBack.{write_back_length, write_back_other, write_back_word}
 
-
-
-
 module _ (z : Sizes) (s : State) (u : ℕ) (last : ℕ → ℕ) (g : Good z s last) (t : is_waiting (s.requests u) ≡ true) where
   its_wish : wishes s u ≡ wish (the_line z s u) (op_of (s.requests u))
   its_wish = waiting_wish (s.requests u) t
@@ -37,13 +34,9 @@ module _ (z : Sizes) (s : State) (u : ℕ) (last : ℕ → ℕ) (g : Good z s la
           → shapes s l i ≡ writes x → ⊥
       no_writes none i x w = grind (arith, none i, here.inside i, g.absent u l, its_wish, writer_shape (s.copies l i) x, e)
 
-
   words_other : (l : ℕ) → l ≢ the_line z s u → get_or (words_after z s u) l 0 ≡ get_or s.words l 0
   unfolding words_after
   words_other l ne = write_back_other (the_way z s u) (s.copies (the_line z s u)) (the_line z s u) z.cores s.words l ne
-
-
-
 
   pub grant_wish : (i : ℕ) → i ≢ u → wishes (grant z s u) i ≡ wishes s i
   grant_wish i ne = grind (arith, grant_others z s u i ne)

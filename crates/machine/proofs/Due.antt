@@ -155,6 +155,6 @@ module _ (c D B : ℕ) where
           | inl same ↦
               let some : a ≢ 0 = λ z. grind (arith, queues.apart l 0 i o, e) in
               rw (eq-eqb l' l same, same) (due_next i a (a - 1) w hi (omega arith)
-                  (grind (arith, rest i, e)) (rw same at x))
+              (grind (arith, rest i, e)) (rw same at x))
           | inr d ↦ rw (ne_eqb l' l d) (due_elsewhere l' a w d x)
         ]

@@ -4,7 +4,6 @@ use Rattle.std.proofs.lemmas.Bool.{eq-eqb, eqb-true, cases_eq}
 use Rattle.machine.specs.declared.call.Call.TheVariants.{Ask}
 use Rattle.machine.specs.declared.op.Op.{Op}
 use Rattle.machine.specs.declared.op.Op.TheVariants.{Read, Write}
-use Rattle.machine.specs.declared.request.Request.{Request}
 use Rattle.machine.specs.declared.sizes.Sizes.{Sizes}
 use Rattle.machine.specs.Answering.{Served, before, Unanswered, Answers, at_once, in_slot, Latest, starting, finished, kept}
 use Rattle.machine.specs.Asking.{asking}
@@ -18,13 +17,9 @@ use Rattle.machine.proofs.CoherentCalls.{kept_from, story}
 use Rattle.machine.proofs.Counting.{never}
 use Rattle.machine.proofs.Effects.{Effect, begins, hits, serves, effect, effect_of, caused, is_served, served_now, served_when}
 use Rattle.machine.proofs.Histories.{Earlier, earlier, cut}
-use Rattle.machine.proofs.Shapes.{wish_of}
 use Rattle.machine.proofs.Wishes.{Wish, wish, next_wish, wish_in, Answer, no_answer, answer, granted_wish, answer_by, answer_of, after_answer, last_write}
 
 -- Unanswered asks ---------------------------------------------------------------------------------
-
-wish_waiting : (r : Request) (l : ℕ) (o : Op) → wish_of r ≡ wish l o → is_waiting r ≡ true
-wish_waiting r l o e = grind arith
 
 -- only a core with a free request is told to wait
 waits_free : (z : Sizes) (s : State) (j l : ℕ) (o : Op) → waits ≡ (asking z j l o s).reply → is_waiting (s.requests j) ≡ false
@@ -35,7 +30,7 @@ waits_free z s j l o e = grind arith
 wish_kept : (b : Start) (i l : ℕ) (o : Op) (e : Event) (h : History) (s : State) → Earlier b e h s → wish_in h i ≡ wish l o
     → (is_served i (effect_of e) ≡ true → ⊥) → next_wish i (effect_of e) (wish l o) ≡ wish l o
 wish_kept b i l o e h s u w unserved =
-    grind (arith, u.replied, waits_free (sizes b) u.state, (story b u.from).asks i, wish_waiting, eqb-true)
+    grind (arith, u.replied, waits_free (sizes b) u.state, (story b u.from).asks i, eqb-true)
 
 unanswered_wish : (b : Start) (i l : ℕ) (o : Op) (since before_it : History) (s : State)
     → From b (since ++ (event (Ask i l o) waits ∷ before_it)) s → (Served i since → ⊥)

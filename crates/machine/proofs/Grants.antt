@@ -22,7 +22,6 @@ module _ (z : Sizes) (s : State) (u : ℕ) where
   unfolding grant
   grant_there l j ne = grind arith
 
-
   pub grant_new : (grant z s u).copies the_line u ≡ Some new_copy
   unfolding grant
   grant_new = grind arith

@@ -1,6 +1,6 @@
 -- The critical requests in order on each line: who sits where. There are c critical cores among n.
-use Rattle.std.proofs.Common.{◌≡◌, ℕ, suc, ◌-◌, ◌<◌, ◌≤◌, Bool, false, cond, ◌&&◌, eqb, ltb, ◌≢◌, ◌⊎◌, sym, refl, ap, ◌∙◌, inl, inr, arith}
-use Rattle.std.proofs.lemmas.Bool.{eq-eqb, ne_eqb, cases_lt, eqb-true}
+use Rattle.std.proofs.Common.{◌≡◌, ℕ, suc, ◌-◌, ◌<◌, ◌≤◌, Bool, false, cond, ◌&&◌, eqb, ltb, ◌≢◌, ◌⊎◌, sym, ap, ◌∙◌, inl, inr, arith}
+use Rattle.std.proofs.lemmas.Bool.{cases_lt, eqb-true}
 use Rattle.std.proofs.lemmas.Bool.Decides.{nat_tests}
 use Rattle.machine.specs.Places.{count_below}
 use Rattle.machine.proofs.Counting.{never, count_same, count_one_less, count_none, count_missed}
@@ -18,12 +18,6 @@ on l (seated l' a) = eqb l' l
 abbrev pub up : ℕ → Seat → Seat
 up l unseated = unseated
 up l (seated l' a) = seated l' (cond (eqb l' l) (a - 1) a)
-
-pub up_here : (l a : ℕ) → up l (seated l a) ≡ seated l (a - 1)
-up_here l a = rw (eq-eqb l l refl)
-
-pub up_there : (l l' a : ℕ) → l' ≢ l → up l (seated l' a) ≡ seated l' a
-up_there l l' a h = rw (ne_eqb l' l h)
 
 on_up : (l l' : ℕ) (t : Seat) → on l' (up l t) ≡ on l' t
 on_up l l' t = grind arith
@@ -45,8 +39,6 @@ module _ (c n : ℕ) where
     pub filled : (l k : ℕ) → k < len S l → (j : ℕ) × (j < c) × (S j ≡ seated l k)
     pub inside : (l a j : ℕ) → j < c → S j ≡ seated l a → a < len S l
     pub apart : (l a i j : ℕ) → i < c → j < c → S i ≡ seated l a → S j ≡ seated l a → i ≡ j
-
-
 
 -- nothing changes where no critical core's seat does
 len_same : (c n : ℕ) (S S' : ℕ → Seat) (l : ℕ) → ((j : ℕ) → j < c → on l (S' j) ≡ on l (S j)) → len c n S' l ≡ len c n S l
@@ -94,13 +86,9 @@ module _ (c n : ℕ) (c≤n : c ≤ n) (S S' : ℕ → Seat) (u l : ℕ) (u<c : 
   join_len_other : (l' : ℕ) → l ≢ l' → len c n S' l' ≡ len c n S l'
   join_len_other l' ne = len_same c n S S' l' (λ j _. grind (arith, nat_tests, rest j))
 
-
   join_from : (j l' a : ℕ) → S' j ≡ seated l' a
       → ((j ≡ u) × (l ≡ l') × (a ≡ len c n S l)) ⊎ ((j ≢ u) × (S j ≡ seated l' a))
   join_from j l' a e = grind (arith, rest j)
-
-  join_len_more : (l' : ℕ) → len c n S l' ≤ len c n S' l'
-  join_len_more l' = grind (arith, join_len, join_len_other l')
 
   join_filled : Queues c n S → (l' k : ℕ) → k < len c n S' l' → (j : ℕ) × (j < c) × (S' j ≡ seated l' k)
   join_filled q l' k a =
@@ -110,7 +98,7 @@ module _ (c n : ℕ) (c≤n : c ≤ n) (S S' : ℕ → Seat) (u l : ℕ) (u<c : 
       ]
 
   join_inside : Queues c n S → (l' a j : ℕ) → j < c → S' j ≡ seated l' a → a < len c n S' l'
-  join_inside q l' a j b e = grind (arith, join_from j l' a e, join_len, join_len_more l', q.inside l' a j)
+  join_inside q l' a j b e = grind (arith, join_from j l' a e, join_len, join_len_other l', q.inside l' a j)
 
   join_apart : Queues c n S → (l' a i j : ℕ) → i < c → j < c → S' i ≡ seated l' a → S' j ≡ seated l' a → i ≡ j
   join_apart q l' a i j hi hj ei ej =

@@ -45,7 +45,6 @@ module _ (z : Sizes) (caps : Caps) (fit : Fit z caps) where
       still : (m a n : ℕ) → OverIn z s m a n → OverIn z s' m a n
       still m a n over j k b hj seat b≤a way = grind (arith, over j k b hj seat b≤a)
 
-
   ready_ask : (s : State) (i l : ℕ) (o : Op) → Ready z caps 1 s → Ready z caps 1 (asking z i l o s).state
   ready_ask s i l o r =
       ask_all z i l s (λ o out. Ready z caps 1 out.state) (λ _ _. r) (λ o _ _ free _. ready_asked z caps fit s i l o free r)

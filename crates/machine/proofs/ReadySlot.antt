@@ -1,23 +1,22 @@
 -- A whole slot keeps a hub ready.
-use Rattle.std.proofs.Common.{◌≡◌, ℕ, ◌+◌, ◌<◌, ◌≤◌, Bool, true, false, Some, None, Option, refl, ap, ◌∙◌, inl, inr, arith}
+use Rattle.std.proofs.Common.{◌≢◌, ◌≡◌, ℕ, ◌+◌, ◌<◌, ◌≤◌, Bool, true, false, Some, None, Option, refl, ap, ◌∙◌, inl, inr, arith}
 use Rattle.std.proofs.lemmas.Bool.{eqb-true}
 use Rattle.setup.specs.Bound.{Caps}
 use Rattle.setup.specs.declared.class.Class.TheVariants.{Critical}
 use Rattle.machine.specs.declared.sizes.Sizes.{Sizes}
 use Rattle.machine.specs.Arbitration.{user_of, move_mark}
 use Rattle.machine.specs.Granting.{in_way, lets_pass, is_first, is_granted}
-use Rattle.machine.specs.Order.{ordered_behind, queue_length, order}
-use Rattle.machine.specs.Parts.{is_waiting, line_of, op_of}
+use Rattle.machine.specs.Order.{queue_length, order}
+use Rattle.machine.specs.Parts.{is_waiting, op_of}
 use Rattle.machine.specs.Slot.{tried, try_user, used_by, slotting}
-use Rattle.machine.specs.State.{State, class_of}
+use Rattle.machine.specs.State.{State}
 use Rattle.machine.specs.Time.{tick}
-use Rattle.machine.proofs.Counting.{never, put_other, all_from}
+use Rattle.machine.proofs.Counting.{never, all_from}
 use Rattle.machine.proofs.Grants.{the_line}
 use Rattle.machine.proofs.Queues.{unseated, seated}
 use Rattle.machine.proofs.Ready.{timers, seats, OverIn, Fit, Ready, class_critical, class_other}
 use Rattle.machine.proofs.ReadyGrant.{ready_granted, ready_granted_other}
 use Rattle.machine.proofs.ReadySteps.{ready_tick, ready_mark, ready_order, ready_end}
-use Rattle.machine.proofs.Seats.{free_unseated, is_first_from}
 use Rattle.machine.proofs.Users.{user_waits, user_is, user_none}
 
 module _ (z : Sizes) (caps : Caps) (fit : Fit z caps) where
@@ -51,7 +50,7 @@ module _ (z : Sizes) (caps : Caps) (fit : Fit z caps) where
       not_yet no_grant l a e t =
           let over : (j : ℕ) → seats s u ≡ seated l 0 → in_way u (op_of (s.requests u)) j (s.copies l j) ≡ true → timers s l j ≤ 0 =
           λ j f w. t u j 0 h f (omega arith) w in
-          grind (arith, is_first_from (s.requests u) l, granted_from s u h, over)
+          grind (arith, granted_from s u h, over)
 
       go : (t : Bool) → is_granted z s u ≡ t → Ready z caps 1 (tried z t s u).state
       go true e = ready_granted z caps fit s u is_owner (granted_first s u e) r
@@ -62,12 +61,9 @@ module _ (z : Sizes) (caps : Caps) (fit : Fit z caps) where
   unfolding try_user
   ready_try_other s u h idle r = go (is_granted z s u) refl
     where
-      free_owner : seats s s.owner ≡ unseated
-      free_owner = free_unseated (s.requests s.owner) idle
-
       go : (t : Bool) → is_granted z s u ≡ t → Ready z caps 1 (tried z t s u).state
       go true e = ready_granted_other z caps fit s u h (granted_empty s u h e) idle r
-      go false e = ready_end z caps fit s r (λ l a x _. never (cc free_owner)) (λ x _. never cc)
+      go false e = ready_end z caps fit s r (λ l a x _. grind arith) (λ x _. never cc)
 
   order_sits : (s : State) (u : ℕ) → is_waiting (s.requests u) ≡ true → seats (order z s u) u ≡ unseated → ⊥
   unfolding order
@@ -85,10 +81,8 @@ module _ (z : Sizes) (caps : Caps) (fit : Fit z caps) where
       elim (user_is z s u r.in_turn.mark_low r.in_turn.mark_high e) [
         | inl o ↦ ready_try s₂ u o (order_sits s₁ u asks) r₂
         | inr h ↦
-            let n : ℕ = queue_length z s₁ (class_of z u) (line_of (s.requests u)) in
-            let still : s₂.requests s.owner ≡ s.requests s.owner =
-            put_other u s.owner (ordered_behind n (s.requests u)) s.requests (omega (arith, h.0, r.in_turn.owner_critical)) in
-            ready_try_other s₂ u h.0 (ap is_waiting still ∙ h.1) r₂
+            let other : u ≢ s.owner = omega (arith, h.0, r.in_turn.owner_critical) in
+            ready_try_other s₂ u h.0 (grind (arith, h.1)) r₂
       ]
 
   pub ready_slot : (s : State) → Ready z caps 1 s → Ready z caps 1 (slotting z s).state
@@ -104,6 +98,5 @@ module _ (z : Sizes) (caps : Caps) (fit : Fit z caps) where
       go : (f : Option ℕ) → user_of z t ≡ f → Ready z caps 1 (used_by z f t).state
       go None e =
           let idle = user_none z t e in
-          let free_owner = free_unseated (t.requests t.owner) idle in
-          ready_end z caps fit t r₀ (λ l a x _. never cc) (λ x _. never cc)
+          ready_end z caps fit t r₀ (λ l a x _. grind arith) (λ x _. never cc)
       go (Some u) e = ready_used t u r₀ e

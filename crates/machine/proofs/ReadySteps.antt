@@ -21,7 +21,7 @@ use Rattle.machine.proofs.Due.{due_map, due_tick, due_asked, due_pass, due_order
 use Rattle.machine.proofs.Owners.{next_owner, owner_in}
 use Rattle.machine.proofs.Queues.{unseated, seated, sits, Queues, queues_same, len_missed, join}
 use Rattle.machine.proofs.Ready.{timers, InTurn, Timed, DueIn, class_critical, seats, OverIn, Fit, gap, longest_hold, DueIn, Ready, queue_seats, timed_later, turn_after}
-use Rattle.machine.proofs.Seats.{seat_of, free_unseated}
+use Rattle.machine.proofs.Seats.{seat_of}
 
 put_id : {A : Type 0} (i : ℕ) (f : ℕ → A) → put i (f i) f ≡ f
 put_id i f = fun_ext (λ j. put_all (λ k x. x ≡ f k) i (f i) f refl (λ k _. refl) j)
@@ -100,24 +100,15 @@ module _ (z : Sizes) (caps : Caps) (fit : Fit z caps) where
       → Ready z caps 1 (with_request u (Asked l o 0) s)
   ready_asked s u l o f r =
       ready_request 1 s u (Asked l o 0) r
-      (queues_same z.critical z.cores (seats s) (seats (with_request u (Asked l o 0) s)) (λ j a. same j) r.queues)
-      (λ l' j a e. head l' j e) (λ _ _ _ _ _ _ _ e. absurd (never cc))
+      (queues_same z.critical z.cores (seats s) (seats (with_request u (Asked l o 0) s)) (λ j a. grind arith) r.queues)
+      (λ l' j a e same. grind arith) (λ _ _ _ _ _ _ _ e. absurd (never cc))
       (λ a. due_asked z.critical (gap z caps) (bound z.critical caps) s.owner u 0 r.in_turn.owner_critical a refl)
-    where
-      was : seats s u ≡ unseated
-      was = free_unseated (s.requests u) f
-
-      same : (j : ℕ) → seat_of (put u (Asked l o 0) s.requests j) ≡ seat_of (s.requests j)
-      same j = grind arith
-
-      head : (l' j : ℕ) → seats s j ≡ seated l' 0 → j ≢ u
-      head l' j e d = never (cc was)
 
   -- the critical user's asked request becomes ordered
   ready_ordered : (s : State) (u l : ℕ) (o : Op) (w : ℕ) → u < z.critical → s.requests u ≡ Asked l o w → Ready z caps 0 s
       → Ready z caps 0 (with_request u (Ordered l o (queue_length z s Critical l) w) s)
   ready_ordered s u l o w h e r =
-      ready_request 0 s u v r q (λ l' j a x. head l' j x) (λ l' b b' j _ hj f y. behind l' b b' j hj f y)
+      ready_request 0 s u v r q (λ l' j a x same. never cc) (λ l' b b' j _ hj f y. behind l' b b' j hj f y)
       (λ a. due_ordered z.critical (gap z caps) (bound z.critical caps) z.cores (OverIn z s' l (queue_length z s Critical l)) (seats s') s.owner u l (queue_length z s Critical l) w
       (longest_hold z caps - 1)
       q r.in_turn.owner_critical h (ap seat_of (put_same u v s.requests)) few (omega (arith, old.2))
@@ -139,9 +130,6 @@ module _ (z : Sizes) (caps : Caps) (fit : Fit z caps) where
 
       old : (k : ℕ) × (owner_in z.critical k s.owner ≡ u) × (w + (k + 0) ≤ z.critical)
       old = subst (λ x. DueIn z caps 0 s.copies s.requests s.owner u x) e (r.due u h)
-
-      head : (l' j : ℕ) → seats s j ≡ seated l' 0 → j ≢ u
-      head l' j x d = never cc
 
       behind : (l' b b' j : ℕ) → j < z.critical → seats s j ≡ seated l' b → seated l (queue_length z s Critical l) ≡ seated l' b' → b < b'
       behind l' b b' j hj f y = grind (arith, r.queues.inside l b j hj, queue_seats z s l)

@@ -41,10 +41,6 @@ shape_writer x e = grind arith
 pub writer_shape : (x : Option Held) (w : ℕ) → shape x ≡ writes w → is_writers x ≡ true
 writer_shape x w e = grind arith
 
-
-
-
-
 pub waiting_wish : (r : Request) → is_waiting r ≡ true → wish_of r ≡ wish (line_of r) (op_of r)
 waiting_wish r e = grind arith
 

@@ -27,9 +27,6 @@ pub record Still (r : Request) (w : ℕ) : Type 0 where
   pub waits : is_waiting r ≡ true
   pub count : wait_of r ≡ w
 
-
-
-
 module _ (z : Sizes) (i : ℕ) where
   still_order : (s : State) (u w : ℕ) → Still (s.requests i) w → Still ((order z s u).requests i) w
   unfolding order
@@ -39,12 +36,10 @@ module _ (z : Sizes) (i : ℕ) where
   unfolding grant
   still_grant s u w ne x = grind arith
 
-
   still_slot : (s : State) (w : ℕ) → Still (s.requests i) w
       → (is_served i (effect Slot (slotting z s).reply) ≡ true) ⊎ Still ((slotting z s).state.requests i) (tick_wait w)
   unfolding slotting try_user tick end_slot move_mark
   still_slot s w x = grind (arith, still_order, still_grant)
-
 
   still_ask : (s : State) (j l w : ℕ) (o : Op) → Still (s.requests i) w → Still ((asking z j l o s).state.requests i) w
   unfolding asking

@@ -14,8 +14,6 @@ use Rattle.machine.specs.State.{State}
 use Rattle.machine.specs.Unchanged.{Question, RefusalsAndQuestionsChangeNothing}
 
 module _ (z : Sizes) (s : State) where
-
-
   refused_unchanged : (c : Call) (e : Refusal) → (step z c s).reply ≡ refused e → (step z c s).state ≡ s
   unfolding asking slotting try_user settling telling_word telling_state
   refused_unchanged c e r = grind arith

@@ -10,8 +10,6 @@ module _ (z : Sizes) (s : State) where
   abbrev waits : ℕ → Bool
   waits core = is_waiting (s.requests core)
 
-
-
   turn_waits : (u : ℕ) → first_in_turn z s ≡ Some u → waits u ≡ true
   unfolding first_in_turn
   turn_waits u e =
@@ -21,7 +19,6 @@ module _ (z : Sizes) (s : State) where
   unfolding first_in_turn
   turn_within u low high e =
       grind (arith, first_found waits (z.cores - s.mark) s.mark u, first_found waits (s.mark - z.critical) z.critical u)
-
 
   pub user_waits : (u : ℕ) → user_of z s ≡ Some u → waits u ≡ true
   unfolding user_of

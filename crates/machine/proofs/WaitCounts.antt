@@ -16,7 +16,6 @@ use Rattle.machine.specs.WaitCounts.{WaitsAreCountedInSlots}
 use Rattle.machine.proofs.Histories.{earlier, cut}
 use Rattle.machine.proofs.StillWaiting.{Still, still_from}
 
-
 order_wait : (z : Sizes) (s : State) (u : ℕ) → wait_of ((order z s u).requests u) ≡ wait_of (s.requests u)
 unfolding order
 order_wait z s u = grind arith

@@ -5,7 +5,6 @@ use Rattle.machine.specs.Grant.{write_back}
 use Rattle.machine.specs.Parts.{is_writers, word_in}
 
 module _ (way : ℕ → Option Held → Bool) (cs : ℕ → Option Held) (l : ℕ) where
-
   pub write_back_length : (n : ℕ) (m : List ℕ) → length (write_back way cs l n m) ≡ length m
   write_back_length zero m = refl
   write_back_length (suc n) m = grind (arith, length-set, write_back_length n m)
