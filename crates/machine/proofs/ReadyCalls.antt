@@ -1,6 +1,6 @@
 -- Every call keeps a hub ready, and so it is in every state reached.
 use Rattle.std.proofs.Common.{◌≡◌, ℕ, ◌+◌, ◌-◌, ◌*◌, ◌<◌, ◌≤◌, true, Some, sym, refl, subst, mul-le-mul, arith}
-use Rattle.setup.specs.Bound.{Caps, bound}
+use Rattle.setup.specs.Bound.{Caps}
 use Rattle.policy.specs.Timing.{Lawful}
 use Rattle.setup.specs.declared.class.Class.TheVariants.{Critical, NonCritical}
 use Rattle.machine.specs.declared.call.Call.{Call}
@@ -21,7 +21,7 @@ use Rattle.machine.proofs.Histories.{limits_from, lawful_from}
 use Rattle.setup.specs.Limits.{KeepsLimits}
 use Rattle.machine.proofs.Limits.{limits}
 use Rattle.machine.proofs.Queues.{queues_none}
-use Rattle.machine.proofs.Ready.{seats, OverIn, Fit, gap, Ready}
+use Rattle.machine.proofs.Ready.{OverIn, Fit, Ready}
 use Rattle.machine.proofs.ReadySlot.{ready_slot}
 use Rattle.machine.proofs.ReadySteps.{ready_asked}
 
@@ -35,7 +35,7 @@ module _ (z : Sizes) (caps : Caps) (fit : Fit z caps) where
         timed = r.timed;
         capped = λ m k. grind (arith, r.capped m k);
         queues = r.queues;
-        due = λ j h. due_map z.critical (gap z caps) (bound z.critical caps) 1 (OverIn z s) (OverIn z s') (seats s) (seats s) s.owner j
+        due = λ j h. due_map _ _ _ 1 _ _ _ _ s.owner j
             (λ _ _ _ e. e) (s.requests j) (λ m a n _ over. still m a n over) (r.due j h);
       }
     where

@@ -2,8 +2,7 @@
 use Rattle.std.proofs.Common.{◌≡◌, ℕ, suc, ◌+◌, ◌<◌, ◌≤◌, max, true, false, ◌≢◌, ◌⊎◌, sym, refl, ap, ◌∙◌, inl, inr, arith}
 use Rattle.std.proofs.lemmas.Bool.{cases_eq}
 use Rattle.std.proofs.lemmas.Bool.Decides.{nat_tests}
-use Rattle.setup.specs.Bound.{Caps, bound}
-use Rattle.setup.specs.Classes.{of_class}
+use Rattle.setup.specs.Bound.{Caps}
 use Rattle.setup.specs.declared.class.Class.TheVariants.{Critical}
 use Rattle.machine.specs.declared.op.Op.{Op}
 use Rattle.machine.specs.declared.sizes.Sizes.{Sizes}
@@ -17,8 +16,8 @@ use Rattle.machine.proofs.Counting.{never}
 use Rattle.machine.proofs.Due.{due_map, due_pass, due_grant}
 use Rattle.machine.proofs.Grants.{the_line, grant_there, grant_new, grant_rest, grant_user, grant_others}
 use Rattle.machine.proofs.Owners.{next_owner}
-use Rattle.machine.proofs.Queues.{unseated, seated, up, Queues, queues_same, leave_from, leave}
-use Rattle.machine.proofs.Ready.{timers, seats, OverIn, Fit, gap, longest_hold, DueIn, Ready, queue_seats, class_critical, class_other, hold_small}
+use Rattle.machine.proofs.Queues.{seated, up, Queues, queues_same, leave_from, leave}
+use Rattle.machine.proofs.Ready.{timers, seats, OverIn, Fit, longest_hold, DueIn, Ready, queue_seats, class_critical, class_other, hold_small}
 use Rattle.machine.proofs.Seats.{seat_of, raised}
 use Rattle.machine.proofs.ReadySteps.{ready_next}
 
@@ -56,9 +55,6 @@ module _ (z : Sizes) (caps : Caps) (fit : Fit z caps) where
       l : ℕ
       l = the_line z s u
 
-      leaves : seats s' u ≡ unseated
-      leaves = ap seat_of (grant_user z s u)
-
       rest : (j : ℕ) → j < z.critical → j ≢ u → (grant z s u).requests j ≡ raised l (s.requests j)
       rest j a ne = grind (arith, grant_others z s u j, class_critical z u h, nat_tests)
 
@@ -66,15 +62,14 @@ module _ (z : Sizes) (caps : Caps) (fit : Fit z caps) where
       rest_seat j a ne = grind (arith, rest j)
 
       q' : Queues z.critical z.cores (seats s')
-      q' = leave z.critical z.cores fit.few_critical (seats s) (seats s') u l h e leaves rest_seat r.queues
+      q' = leave z.critical z.cores fit.few_critical (seats s) (seats s') u l h e (ap seat_of (grant_user z s u)) rest_seat r.queues
 
       new_timer : s.timing.hold 0 u (class_of z u) l Critical ≤ caps.critical
-      new_timer = rw (class_critical z u h)
-          (omega (arith, r.timed.lawful.capped 0 u Critical l, ap (λ c. of_class c Critical) r.timed.same_caps))
+      new_timer = grind (arith, class_critical z u h, r.timed.lawful.capped 0 u Critical l, r.timed.same_caps)
 
       from : (i l' b : ℕ) → i < z.critical → seats s' i ≡ seated l' b
           → (i ≢ u) × (((l ≡ l') × (seats s i ≡ seated l' (suc b))) ⊎ ((l ≢ l') × (seats s i ≡ seated l' b)))
-      from i l' b hi x = leave_from z.critical z.cores fit.few_critical (seats s) (seats s') u l h e leaves rest_seat r.queues i
+      from i l' b hi x = leave_from z.critical z.cores fit.few_critical (seats s) (seats s') u l h e (ap seat_of (grant_user z s u)) rest_seat r.queues i
           l' b hi x
 
       same_op : (i : ℕ) → i < z.critical → i ≢ u → op_of ((grant z s u).requests i) ≡ op_of (s.requests i)
@@ -97,7 +92,7 @@ module _ (z : Sizes) (caps : Caps) (fit : Fit z caps) where
       at i a = elim (cases_eq i u) [
         | inl same ↦ rw (same, grant_user z s u) tt
         | inr ne ↦ rw (rest i a ne)
-            (due_grant z.critical (gap z caps) (bound z.critical caps) z.cores caps.critical (OverIn z s) (OverIn z s') (seats s) (seats s') s.owner l
+            (due_grant _ _ _ z.cores caps.critical _ _ _ _ s.owner l
             r.in_turn.owner_critical (fit.some_caps Critical) (omega arith) r.queues q' (ap (seats s) (sym is_owner) ∙ e)
             (λ j b d. rest_seat j b (rw (← is_owner) at d))
             here there
@@ -123,14 +118,8 @@ module _ (z : Sizes) (caps : Caps) (fit : Fit z caps) where
       q' : Queues z.critical z.cores (seats s')
       q' = queues_same z.critical z.cores (seats s) (seats s') (λ j a. ap seat_of (rest j a)) r.queues
 
-      free_owner : seats s s.owner ≡ unseated
-      free_owner = grind arith
-
       none_here : (l' b j : ℕ) → j < z.critical → seats s j ≡ seated l' b → l' ≢ l
       none_here l' b j a e same = grind (arith, r.queues.inside l b j, queue_seats z s l, empty)
-
-      keep : (l' j : ℕ) → j < z.critical → seats s j ≡ seated l' 0 → seats s' j ≡ seated l' 0
-      keep l' j a e = ap seat_of (rest j a) ∙ e
 
       longer : (l' b n i : ℕ) → i < z.critical → seats s i ≡ seated l' b → OverIn z s l' b n → OverIn z s' l' b n
       longer l' b n i a e x k j b' hk f le w = grind (arith, none_here l' b i a e, grant_there z s u l' j, rest k hk, x k j b' hk)
@@ -140,7 +129,8 @@ module _ (z : Sizes) (caps : Caps) (fit : Fit z caps) where
 
       at : (i : ℕ) → i < z.critical
           → DueIn z caps 1 s'.copies s'.requests (next_owner z.critical s.owner) i ((grant z s u).requests i)
-      at i a = rw (rest i a) (due_pass z.critical (gap z caps) (bound z.critical caps) (OverIn z s') (seats s') s.owner i not_yet (s.requests i)
+      at i a = rw (rest i a) (due_pass _ _ _ _ _ s.owner i not_yet (s.requests i)
           (λ w f e. let x : is_waiting (s.requests s.owner) ≡ true = rw e at w in never cc)
-          (due_map z.critical (gap z caps) (bound z.critical caps) 0 (OverIn z s) (OverIn z s') (seats s) (seats s') s.owner i keep (s.requests i)
+          (due_map _ _ _ 0 _ _ _ _ s.owner i
+          (λ l' j a e. grind (arith, rest j)) (s.requests i)
           (λ l' b n e x. longer l' b n i a e x) (r.due i a)))

@@ -1,5 +1,5 @@
 -- The steps of a slot, but for the grant, keep a hub ready.
-use Rattle.std.proofs.Common.{◌≡◌, ℕ, ◌+◌, ◌-◌, ◌<◌, ◌≤◌, true, false, cond, ltb, ◌≢◌, sym, refl, ap, ◌∙◌, subst, inl, inr, arith}
+use Rattle.std.proofs.Common.{◌≡◌, ℕ, ◌+◌, ◌-◌, ◌<◌, ◌≤◌, true, false, ◌≢◌, sym, refl, ap, ◌∙◌, subst, inl, inr, arith}
 use mathlib.Core.Path.{fun_ext}
 use Rattle.std.proofs.lemmas.Bool.{cases_lt}
 use Rattle.std.proofs.lemmas.Bool.Decides.{nat_tests}
@@ -9,7 +9,7 @@ use Rattle.machine.specs.declared.op.Op.{Op}
 use Rattle.machine.specs.declared.request.Request.{Request}
 use Rattle.machine.specs.declared.request.Request.TheVariants.{Free, Asked, Ordered}
 use Rattle.machine.specs.declared.sizes.Sizes.{Sizes}
-use Rattle.machine.specs.Arbitration.{mark_after, move_mark}
+use Rattle.machine.specs.Arbitration.{move_mark}
 use Rattle.machine.specs.Order.{ordered_behind, queue_length, order}
 use Rattle.machine.specs.Parts.{is_waiting, line_of}
 use Rattle.machine.specs.Places.{put}
@@ -35,7 +35,7 @@ module _ (z : Sizes) (caps : Caps) (fit : Fit z caps) where
         timed = r.timed;
         capped = λ l j. grind (arith, r.capped l j);
         queues = queues_same z.critical z.cores (seats s) (seats (tick s)) (λ j _. grind arith) r.queues;
-        due = λ i h. due_tick z.critical (gap z caps) (bound z.critical caps) (OverIn z s) (OverIn z (tick s)) (seats s) (seats (tick s)) s.owner i
+        due = λ i h. due_tick _ _ _ _ _ _ _ s.owner i
             fall (λ j. grind arith) (s.requests i) (r.due i h);
       }
     where
@@ -46,18 +46,16 @@ module _ (z : Sizes) (caps : Caps) (fit : Fit z caps) where
   unfolding move_mark
   ready_mark s u r =
       record {
-        in_turn = record { owner_critical = r.in_turn.owner_critical; mark_low = low; mark_high = high };
+        in_turn = record {
+          owner_critical = r.in_turn.owner_critical;
+          mark_low = grind (arith, nat_tests, r.in_turn.mark_low, fit.few_critical);
+          mark_high = grind (arith, nat_tests, r.in_turn.mark_high, fit.few_critical);
+        };
         timed = r.timed;
         capped = r.capped;
         queues = r.queues;
         due = r.due;
       }
-    where
-      low : z.critical ≤ cond (ltb u z.critical) s.mark (mark_after z u)
-      low = let x = r.in_turn.mark_low in let y = fit.few_critical in grind (arith, nat_tests)
-
-      high : cond (ltb u z.critical) s.mark (mark_after z u) ≤ z.cores
-      high = let x = r.in_turn.mark_high in let y = fit.few_critical in grind (arith, nat_tests)
 
   -- one core's request changes
   ready_request : (d : ℕ) (s : State) (u : ℕ) (v : Request) → Ready z caps d s
@@ -86,7 +84,7 @@ module _ (z : Sizes) (caps : Caps) (fit : Fit z caps) where
 
       at : (i : ℕ) → i < z.critical → DueIn z caps d s'.copies s'.requests s.owner i (put u v s.requests i)
       at i h = put_all (λ j x. j < z.critical → DueIn z caps d s'.copies s'.requests s.owner j x) u v s.requests
-          new (λ j ne a. due_map z.critical (gap z caps) (bound z.critical caps) d (OverIn z s) (OverIn z s') (seats s) (seats s') s.owner j keep (s.requests j)
+          new (λ j ne a. due_map _ _ _ d _ _ _ _ s.owner j keep (s.requests j)
           (λ l b n e x. longer l b n j a e x) (r.due j a)) i h
 
   ready_other : (d : ℕ) (s : State) (u : ℕ) (v : Request) → z.critical ≤ u → Ready z caps d s → Ready z caps d (with_request u v s)
@@ -109,7 +107,7 @@ module _ (z : Sizes) (caps : Caps) (fit : Fit z caps) where
       → Ready z caps 0 (with_request u (Ordered l o (queue_length z s Critical l) w) s)
   ready_ordered s u l o w h e r =
       ready_request 0 s u v r q (λ l' j a x same. never cc) (λ l' b b' j _ hj f y. behind l' b b' j hj f y)
-      (λ a. due_ordered z.critical (gap z caps) (bound z.critical caps) z.cores (OverIn z s' l (queue_length z s Critical l)) (seats s') s.owner u l (queue_length z s Critical l) w
+      (λ a. due_ordered _ _ _ z.cores (OverIn z s' l (queue_length z s Critical l)) (seats s') s.owner u l (queue_length z s Critical l) w
       (longest_hold z caps - 1)
       q r.in_turn.owner_critical h (ap seat_of (put_same u v s.requests)) few (omega (arith, old.2))
       (λ k m i j b _ _ _ _. omega (arith, r.capped l j)) (omega (arith, fit.some_caps Critical, fit.some_critical)))
@@ -162,7 +160,6 @@ module _ (z : Sizes) (caps : Caps) (fit : Fit z caps) where
       otherwise : z.critical ≤ u → Ready z caps 0 (order z s u)
       otherwise h = ready_other 0 s u (ordered_behind (queue_length z s (class_of z u) (line_of (s.requests u))) (s.requests u)) h r
 
-  -- the slot ends and its owner was not granted anything
   -- the slot ends
   pub ready_next : (s : State) → InTurn z s.owner s.mark → Timed caps s.timing → ((l j : ℕ) → timers s l j ≤ longest_hold z caps)
       → Queues z.critical z.cores (seats s)
@@ -185,5 +182,5 @@ module _ (z : Sizes) (caps : Caps) (fit : Fit z caps) where
       → Ready z caps 1 (end_slot z s)
   ready_end s r not_yet sits =
       ready_next s r.in_turn r.timed (λ l j. omega (arith, r.capped l j, fit.some_caps Critical)) r.queues
-      (λ i h. due_pass z.critical (gap z caps) (bound z.critical caps) (OverIn z s) (seats s) s.owner i not_yet (s.requests i)
+      (λ i h. due_pass _ _ _ _ _ s.owner i not_yet (s.requests i)
       (λ w f e. sits (rw e at w) (rw e at f)) (r.due i h))
