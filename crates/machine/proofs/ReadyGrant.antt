@@ -62,14 +62,14 @@ module _ (z : Sizes) (caps : Caps) (fit : Fit z caps) where
       rest_seat j a ne = grind (arith, rest j)
 
       q' : Queues z.critical z.cores (seats s')
-      q' = leave z.critical z.cores fit.few_critical (seats s) (seats s') u l h e (ap seat_of (grant_user z s u)) rest_seat r.queues
+      q' = leave _ _ fit.few_critical _ _ u l h e (ap seat_of (grant_user z s u)) rest_seat r.queues
 
       new_timer : s.timing.hold 0 u (class_of z u) l Critical ≤ caps.critical
       new_timer = grind (arith, class_critical z u h, r.timed.lawful.capped 0 u Critical l, r.timed.same_caps)
 
       from : (i l' b : ℕ) → i < z.critical → seats s' i ≡ seated l' b
           → (i ≢ u) × (((l ≡ l') × (seats s i ≡ seated l' (suc b))) ⊎ ((l ≢ l') × (seats s i ≡ seated l' b)))
-      from i l' b hi x = leave_from z.critical z.cores fit.few_critical (seats s) (seats s') u l h e (ap seat_of (grant_user z s u)) rest_seat r.queues i
+      from i l' b hi x = leave_from _ _ fit.few_critical _ _ u l h e (ap seat_of (grant_user z s u)) rest_seat r.queues i
           l' b hi x
 
       same_op : (i : ℕ) → i < z.critical → i ≢ u → op_of ((grant z s u).requests i) ≡ op_of (s.requests i)
@@ -116,7 +116,7 @@ module _ (z : Sizes) (caps : Caps) (fit : Fit z caps) where
       rest j a = grind (arith, grant_others z s u j, class_other z u h, nat_tests)
 
       q' : Queues z.critical z.cores (seats s')
-      q' = queues_same z.critical z.cores (seats s) (seats s') (λ j a. ap seat_of (rest j a)) r.queues
+      q' = queues_same _ _ _ _ (λ j a. ap seat_of (rest j a)) r.queues
 
       none_here : (l' b j : ℕ) → j < z.critical → seats s j ≡ seated l' b → l' ≢ l
       none_here l' b j a e same = grind (arith, r.queues.inside l b j, queue_seats z s l, empty)

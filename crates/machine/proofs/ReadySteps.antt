@@ -34,7 +34,7 @@ module _ (z : Sizes) (caps : Caps) (fit : Fit z caps) where
         in_turn = r.in_turn;
         timed = r.timed;
         capped = λ l j. grind (arith, r.capped l j);
-        queues = queues_same z.critical z.cores (seats s) (seats (tick s)) (λ j _. grind arith) r.queues;
+        queues = queues_same _ _ _ _ (λ j _. grind arith) r.queues;
         due = λ i h. due_tick _ _ _ _ _ _ _ s.owner i
             fall (λ j. grind arith) (s.requests i) (r.due i h);
       }
@@ -90,7 +90,7 @@ module _ (z : Sizes) (caps : Caps) (fit : Fit z caps) where
   ready_other : (d : ℕ) (s : State) (u : ℕ) (v : Request) → z.critical ≤ u → Ready z caps d s → Ready z caps d (with_request u v s)
   ready_other d s u v h r =
       ready_request d s u v r
-      (queues_same z.critical z.cores (seats s) (seats (with_request u v s))
+      (queues_same _ _ _ _
       (λ j a. ap seat_of (put_other u j v s.requests (omega arith))) r.queues)
       (λ l j a e. omega arith) (λ l b b' j a _ _ _. omega arith) (λ a. absurd (omega arith))
 
@@ -98,7 +98,7 @@ module _ (z : Sizes) (caps : Caps) (fit : Fit z caps) where
       → Ready z caps 1 (with_request u (Asked l o 0) s)
   ready_asked s u l o f r =
       ready_request 1 s u (Asked l o 0) r
-      (queues_same z.critical z.cores (seats s) (seats (with_request u (Asked l o 0) s)) (λ j a. grind arith) r.queues)
+      (queues_same _ _ _ _ (λ j a. grind arith) r.queues)
       (λ l' j a e same. grind arith) (λ _ _ _ _ _ _ _ e. absurd (never cc))
       (λ a. due_asked z.critical (gap z caps) (bound z.critical caps) s.owner u 0 r.in_turn.owner_critical a refl)
 
@@ -122,7 +122,7 @@ module _ (z : Sizes) (caps : Caps) (fit : Fit z caps) where
       was = ap seat_of e
 
       q : Queues z.critical z.cores (seats s')
-      q = join z.critical z.cores fit.few_critical (seats s) (seats s') u l h was
+      q = join _ _ fit.few_critical _ _ u l h was
           (ap seat_of (put_same u v s.requests) ∙ ap (seated l) (queue_seats z s l))
           (λ j ne. ap seat_of (put_other u j v s.requests ne)) r.queues
 
@@ -133,7 +133,7 @@ module _ (z : Sizes) (caps : Caps) (fit : Fit z caps) where
       behind l' b b' j hj f y = grind (arith, r.queues.inside l b j hj, queue_seats z s l)
 
       few : queue_length z s Critical l < z.critical
-      few = rw (queue_seats z s l) (len_missed z.critical z.cores (seats s) l u h was)
+      few = rw (queue_seats z s l) (len_missed _ _ _ l u h was)
 
   -- an ordered request stays as it is
   order_ordered : (s : State) (u l : ℕ) (o : Op) (a w : ℕ) → s.requests u ≡ Ordered l o a w → order z s u ≡ s
