@@ -12,9 +12,8 @@ pub data Shape (V : Type 0) : Type 0 where
   writes : V → Shape V
 
 abbrev pub no_writer : {V : Type 0} → Shape V → Shape V
-no_writer nothing = nothing
 no_writer (reads x) = reads x
-no_writer (writes x) = nothing
+no_writer _ = nothing
 
 -- One line: n cores with their shapes, the memory's word, the last write's word ------------------
 

@@ -1,5 +1,5 @@
 -- A grant keeps the lines coherent.
-use Rattle.std.proofs.Common.{◌≡◌, ℕ, ◌<◌, true, ◌≢◌, length, get_or, refl, ap, inl, inr, arith}
+use Rattle.std.proofs.Common.{◌≡◌, ℕ, ◌<◌, true, ◌≢◌, get_or, refl, ap, inl, inr, arith}
 use Rattle.std.proofs.lemmas.Bool.{eq-eqb, cases_eq}
 use Rattle.machine.specs.declared.op.Op.{Op}
 use Rattle.machine.specs.declared.op.Op.TheVariants.{Read, Write}
@@ -7,7 +7,7 @@ use Rattle.machine.specs.declared.sizes.Sizes.{Sizes}
 use Rattle.machine.specs.Grant.{words_after, granted_word, grant}
 use Rattle.machine.specs.Parts.{is_writers, is_waiting, op_of}
 use Rattle.machine.specs.State.{State}
-use Rattle.machine.proofs.Coherence.{nothing, writes, Line, line_same, line_writer, line_reader}
+use Rattle.machine.proofs.Coherence.{writes, Line, line_same, line_writer, line_reader}
 use Rattle.machine.proofs.Grants.{the_line, the_way, grant_there, grant_new, grant_rest, grant_user, grant_others}
 use Rattle.machine.proofs.Shapes.{shape, wish_of, shapes, wishes, Good, shape_writer, writer_shape, waiting_wish}
 use Rattle.machine.proofs.Wishes.{no_wish, wish, answer, after_answer}
@@ -72,19 +72,12 @@ module _ (z : Sizes) (s : State) (u : ℕ) (last : ℕ → ℕ) (g : Good z s la
       other : (o : Op) → l ≢ the_line z s u → after_answer l (answer u (the_line z s u) o w) (last l) ≡ last l
       other o ne = grind arith
 
-  words_length : length (words_after z s u) ≡ length s.words
-  unfolding words_after
-  words_length = write_back_length (the_way z s u) (s.copies (the_line z s u)) (the_line z s u) z.cores s.words
-
-  grant_absent : (i l : ℕ) → wishes (grant z s u) i ≡ wish l Read → shapes (grant z s u) l i ≡ nothing
-  grant_absent i l e = grind (arith, grant_wish_from i l Read, g.absent i l, grant_rest z s u i, grant_there z s u l i)
-
   pub good_grant : (w : ℕ) → Good z (grant z s u) (λ l. after_answer l (answer u (the_line z s u) (op_of (s.requests u)) w) (last l))
-  unfolding grant
+  unfolding grant words_after
   good_grant w =
       record {
         line = grant_lines w;
-        absent = grant_absent;
+        absent = λ i l e. grind (arith, grant_wish_from i l Read, g.absent i l, grant_rest z s u i, grant_there z s u l i);
         room = λ i l o e. g.room i l o (grant_wish_from i l o e).1;
-        fits = rw words_length g.fits;
+        fits = rw (write_back_length (the_way z s u) (s.copies (the_line z s u)) (the_line z s u) z.cores s.words) g.fits;
       }

@@ -48,10 +48,8 @@ caused e x q = subst (λ y. Caused y e) q (caused_by e.call e.reply)
 -- Done slots of a core ----------------------------------------------------------------------------
 
 abbrev pub is_served : ℕ → Effect → Bool
-is_served i no_effect = false
-is_served i (begins j l o) = false
-is_served i (hits j l o w) = false
 is_served i (serves j w) = eqb i j
+is_served i _ = false
 
 pub served_now : (i : ℕ) (e : Event) (h : History) → is_served i (effect_of e) ≡ true → Served i (e ∷ h)
 served_now i e h t = go e.call e.reply t

@@ -90,22 +90,16 @@ module _ (c n : ℕ) (c≤n : c ≤ n) (S S' : ℕ → Seat) (u l : ℕ) (u<c : 
       → ((j ≡ u) × (l ≡ l') × (a ≡ len c n S l)) ⊎ ((j ≢ u) × (S j ≡ seated l' a))
   join_from j l' a e = grind (arith, rest j)
 
-  join_filled : Queues c n S → (l' k : ℕ) → k < len c n S' l' → (j : ℕ) × (j < c) × (S' j ≡ seated l' k)
-  join_filled q l' k a =
-      elim (cases_lt k (len c n S l')) [
-        | inl b ↦ let r = q.filled l' k b in (r.0, r.1, grind (arith, rest r.0))
-        | inr b ↦ (u, u<c, grind (arith, join_len, join_len_other l'))
-      ]
-
-  join_inside : Queues c n S → (l' a j : ℕ) → j < c → S' j ≡ seated l' a → a < len c n S' l'
-  join_inside q l' a j b e = grind (arith, join_from j l' a e, join_len, join_len_other l', q.inside l' a j)
-
-  join_apart : Queues c n S → (l' a i j : ℕ) → i < c → j < c → S' i ≡ seated l' a → S' j ≡ seated l' a → i ≡ j
-  join_apart q l' a i j hi hj ei ej =
-      grind (arith, join_from i l' a ei, join_from j l' a ej, q.inside l' a, q.apart l' a i j)
-
   pub join : Queues c n S → Queues c n S'
-  join q = record { filled = join_filled q; inside = join_inside q; apart = join_apart q }
+  join q =
+      record {
+        filled = λ l' k a. elim (cases_lt k (len c n S l')) [
+          | inl b ↦ let r = q.filled l' k b in (r.0, r.1, grind (arith, rest r.0))
+          | inr b ↦ (u, u<c, grind (arith, join_len, join_len_other l'))
+        ];
+        inside = λ l' a j b e. grind (arith, join_from j l' a e, join_len, join_len_other l', q.inside l' a j);
+        apart = λ l' a i j hi hj ei ej. grind (arith, join_from i l' a ei, join_from j l' a ej, q.inside l' a, q.apart l' a i j);
+      }
 
 -- the first of a line leaves, and the others of that line move up
 module _ (c n : ℕ) (c≤n : c ≤ n) (S S' : ℕ → Seat) (u l : ℕ) (u<c : u < c)
@@ -123,18 +117,14 @@ module _ (c n : ℕ) (c≤n : c ≤ n) (S S' : ℕ → Seat) (u l : ℕ) (u<c : 
   leave_len_other : (l' : ℕ) → l ≢ l' → len c n S' l' ≡ len c n S l'
   leave_len_other l' ne = len_same c n S S' l' (λ j a. grind (arith, nat_tests, rest j, on_up l l' (S j)))
 
-  leave_filled : Queues c n S → (l' k : ℕ) → k < len c n S' l' → (j : ℕ) × (j < c) × (S' j ≡ seated l' k)
-  leave_filled q l' k a =
-      let r = q.filled l' (cond (eqb l l') (suc k) k) (grind (arith, leave_len, leave_len_other l')) in
-      (r.0, r.1, grind (arith, rest r.0))
-
-  leave_inside : Queues c n S → (l' a j : ℕ) → j < c → S' j ≡ seated l' a → a < len c n S' l'
-  leave_inside q l' a j b e =
-      grind (arith, leave_from q j l' a b e, leave_len, leave_len_other l', q.inside l' (suc a) j, q.inside l' a j)
-
-  leave_apart : Queues c n S → (l' a i j : ℕ) → i < c → j < c → S' i ≡ seated l' a → S' j ≡ seated l' a → i ≡ j
-  leave_apart q l' a i j hi hj ei ej =
-      grind (arith, leave_from q i l' a hi ei, leave_from q j l' a hj ej, q.apart l' (suc a) i j, q.apart l' a i j)
-
   pub leave : Queues c n S → Queues c n S'
-  leave q = record { filled = leave_filled q; inside = leave_inside q; apart = leave_apart q }
+  leave q =
+      record {
+        filled = λ l' k a.
+            let r = q.filled l' (cond (eqb l l') (suc k) k) (grind (arith, leave_len, leave_len_other l')) in
+            (r.0, r.1, grind (arith, rest r.0));
+        inside = λ l' a j b e.
+            grind (arith, leave_from q j l' a b e, leave_len, leave_len_other l', q.inside l' (suc a) j, q.inside l' a j);
+        apart = λ l' a i j hi hj ei ej.
+            grind (arith, leave_from q i l' a hi ei, leave_from q j l' a hj ej, q.apart l' (suc a) i j, q.apart l' a i j);
+      }

@@ -1,20 +1,19 @@
 -- Waits are counted in slots.
-use Rattle.std.proofs.Common.{◌≡◌, ℕ, min, ◌∷◌, ◌∙◌, subst, inl, inr, arith}
+use Rattle.std.proofs.Common.{◌≡◌, ℕ, ◌∷◌, subst, inl, inr, arith}
 use Rattle.machine.specs.declared.call.Call.TheVariants.{Slot}
 use Rattle.machine.specs.declared.op.Role.{Role}
-use Rattle.machine.specs.declared.request.Request.{Request}
 use Rattle.machine.specs.declared.sizes.Sizes.{Sizes}
 use Rattle.machine.specs.Arbitration.{move_mark}
-use Rattle.machine.specs.History.{sizes, event, From, slots}
+use Rattle.machine.specs.History.{sizes, event, From}
 use Rattle.machine.specs.Order.{order}
 use Rattle.machine.specs.Parts.{wait_of}
 use Rattle.machine.specs.Replies.{done}
 use Rattle.machine.specs.Slot.{try_user, slotting}
 use Rattle.machine.specs.State.{State}
-use Rattle.machine.specs.Time.{tick_wait, tick_request, tick}
+use Rattle.machine.specs.Time.{tick_request, tick}
 use Rattle.machine.specs.WaitCounts.{WaitsAreCountedInSlots}
 use Rattle.machine.proofs.Histories.{earlier, cut}
-use Rattle.machine.proofs.StillWaiting.{Still, still_from}
+use Rattle.machine.proofs.StillWaiting.{still_from}
 
 order_wait : (z : Sizes) (s : State) (u : ℕ) → wait_of ((order z s u).requests u) ≡ wait_of (s.requests u)
 unfolding order
@@ -26,9 +25,6 @@ done_wait : (z : Sizes) (s : State) (owner u l w n : ℕ) (k : Role) → done ow
 unfolding slotting try_user tick move_mark
 done_wait z s owner u l w n k e = grind (arith, order_wait)
 
-tick_counts : (r : Request) (w : ℕ) → Still r w → wait_of (tick_request r) ≡ tick_wait w
-tick_counts r w x = grind arith
-
 pub waits_are_counted_in_slots : WaitsAreCountedInSlots
 waits_are_counted_in_slots b h s f later before_it since owner core line asked_line word wait role op is un =
     let g = cut b later (event Slot (done owner core line role word wait) ∷ before_it) s (subst (λ k. From b k s) is f) in
@@ -36,8 +32,5 @@ waits_are_counted_in_slots b h s f later before_it since owner core line asked_l
     let asked = subst (λ k. From b k u.state) un.asked u.from in
     elim (still_from b core asked_line op since un.earlier u.state asked) [
       | inl served ↦ absurd (un.unserved served)
-      | inr x ↦
-          let told = done_wait (sizes b) u.state owner core line word wait role u.replied in
-          let counted = tick_counts (u.state.requests core) (min (slots since) 4294967295) x in
-          told ∙ (counted ∙ omega arith)
+      | inr x ↦ grind (arith, done_wait (sizes b) u.state owner core line word wait role u.replied)
     ]
