@@ -66,11 +66,8 @@ module _ (z : Sizes) (s : State) (u : ℕ) (last : ℕ → ℕ) (g : Good z s la
       elim (cases_eq l (the_line z s u)) [
         | inl same ↦ grant_line w l _ refl same
         | inr ne ↦ line_same _ _ _ _ _ _ _ (λ i. ap shape (grant_there z s u l i ne)) (words_other l ne)
-            (grind (arith, other (op_of (s.requests u)))) (g.line l)
+            (grind arith) (g.line l)
       ]
-    where
-      other : (o : Op) → l ≢ the_line z s u → after_answer l (answer u (the_line z s u) o w) (last l) ≡ last l
-      other o ne = grind arith
 
   pub good_grant : (w : ℕ) → Good z (grant z s u) (λ l. after_answer l (answer u (the_line z s u) (op_of (s.requests u)) w) (last l))
   unfolding grant words_after

@@ -72,20 +72,17 @@ module _ (z : Sizes) (caps : Caps) (fit : Fit z caps) where
       from i l' b hi x = leave_from _ _ fit.few_critical _ _ u l h e (ap seat_of (grant_user z s u)) rest_seat r.queues i
           l' b hi x
 
-      same_op : (i : ℕ) → i < z.critical → i ≢ u → op_of ((grant z s u).requests i) ≡ op_of (s.requests i)
-      same_op i a ne = grind (arith, rest i)
-
       here : (a k m : ℕ) → OverIn z s l (suc a) k → k ≤ m → caps.critical ≤ m → OverIn z s' l a m
       here a k m x k≤m h≤m i j b hi f ba w =
           let g = from i l b hi f in
           elim g.1 [
             | inl y ↦ grant_over s u i j k m (op_of (s.requests i)) (omega (arith, new_timer)) k≤m
-                (λ v. x i j (suc b) hi y.1 (omega arith) v) (rw (same_op i hi g.0) at w)
+                (λ v. x i j (suc b) hi y.1 (omega arith) v) (grind (arith, rest i hi g.0))
             | inr y ↦ absurd (y.0 refl)
           ]
 
       there : (l' a k : ℕ) → l' ≢ l → OverIn z s l' a k → OverIn z s' l' a k
-      there l' a k d x i j b hi f ba w = grind (arith, from i l' b hi f, same_op i hi, grant_there z s u l' j, x i j b hi)
+      there l' a k d x i j b hi f ba w = grind (arith, from i l' b hi f, rest i hi, grant_there z s u l' j, x i j b hi)
 
       at : (i : ℕ) → i < z.critical
           → DueIn z caps 1 s'.copies s'.requests (next_owner z.critical s.owner) i ((grant z s u).requests i)

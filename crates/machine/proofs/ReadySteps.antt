@@ -143,18 +143,13 @@ module _ (z : Sizes) (caps : Caps) (fit : Fit z caps) where
       ap (λ x. with_request u x s) v
       ∙ (λ i. record s { requests = put_id u s.requests i })
 
-  order_asked : (s : State) (u l : ℕ) (o : Op) (w : ℕ) → u < z.critical → s.requests u ≡ Asked l o w
-      → order z s u ≡ with_request u (Ordered l o (queue_length z s Critical l) w) s
-  unfolding order
-  order_asked s u l o w h e = ap (λ x. with_request u x s) (grind (arith, class_critical z u h))
-
   pub ready_order : (s : State) (u : ℕ) → is_waiting (s.requests u) ≡ true → Ready z caps 0 s → Ready z caps 0 (order z s u)
   unfolding order
   ready_order s u t r = elim (cases_lt u z.critical) [ inl h ↦ critically h (s.requests u) refl t | inr h ↦ otherwise h ]
     where
       critically : u < z.critical → (x : Request) → s.requests u ≡ x → is_waiting x ≡ true → Ready z caps 0 (order z s u)
       critically h Free e t = absurd (never cc)
-      critically h (Asked l o w) e t = subst (Ready z caps 0) (sym (order_asked s u l o w h e)) (ready_ordered s u l o w h e r)
+      critically h (Asked l o w) e t = rw (e, class_critical z u h) (ready_ordered s u l o w h e r)
       critically h (Ordered l o a w) e t = subst (Ready z caps 0) (sym (order_ordered s u l o a w e)) r
 
       otherwise : z.critical ≤ u → Ready z caps 0 (order z s u)
