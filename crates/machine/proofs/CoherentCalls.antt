@@ -31,7 +31,7 @@ use Rattle.machine.proofs.Effects.{no_effect, effect}
 use Rattle.machine.proofs.Grants.{the_line}
 use Rattle.machine.proofs.Shapes.{shape, shapes, wishes, Good, shape_writer, waiting_wish, ticked_wish, good_tick, ordered_wish, good_order}
 use Rattle.machine.proofs.Users.{user_waits}
-use Rattle.machine.proofs.Wishes.{Wish, wish, next_wish, wish_in, answer, granted_wish, answer_by, after_answer, last_write}
+use Rattle.machine.proofs.Wishes.{Wish, wish, next_wish, wish_in, answer, answer_by, after_answer, last_write}
 use Rattle.machine.proofs.WriteBack.{write_back_length, write_back_other, write_back_word}
 
 pub record Kept (z : Sizes) (c : Call) (out : Outcome) (ws : ℕ → Wish) (last : ℕ → ℕ) : Type 0 where
@@ -54,14 +54,11 @@ module _ (z : Sizes) (ws : ℕ → Wish) (last : ℕ → ℕ) where
       record {
         good = rw mine (good_grant z s u last g w (granted_word z s u));
         asks = λ i. grind (arith, e i, grant_wish z s u last g w i, grant_wish_user z s u last g w);
-        right = λ i l x a. right i l x a;
+        right = λ i l x a. grind (arith, mine, words_last z s u last g w);
       }
     where
       mine : ws u ≡ wish (the_line z s u) (op_of (s.requests u))
       mine = e u ∙ waiting_wish (s.requests u) w
-
-      right : (i l x : ℕ) → granted_wish u (ws u) (granted_word z s u) ≡ answer i l Read x → x ≡ last l
-      right i l x a = grind (arith, mine, words_last z s u last g w)
 
   order_waiting : (s : State) (u : ℕ) → is_waiting (s.requests u) ≡ true → is_waiting ((order z s u).requests u) ≡ true
   unfolding order
@@ -69,24 +66,18 @@ module _ (z : Sizes) (ws : ℕ → Wish) (last : ℕ → ℕ) where
 
   kept_slot : (s : State) → Good z s last → ((i : ℕ) → ws i ≡ wishes s i) → Kept z Slot (slotting z s) ws last
   unfolding slotting try_user move_mark end_slot
-  kept_slot s g e = go (user_of z t) refl
+  kept_slot s g e = go (user_of z (tick s)) refl
     where
-      t : State
-      t = tick s
+      asks : (i : ℕ) → ws i ≡ wishes (tick s) i
+      asks i = e i ∙ sym (ticked_wish s i)
 
-      g₁ : Good z t last
-      g₁ = good_tick z s last g
-
-      e₁ : (i : ℕ) → ws i ≡ wishes t i
-      e₁ i = e i ∙ sym (ticked_wish s i)
-
-      go : (f : Option ℕ) → user_of z t ≡ f → Kept z Slot (used_by z f t) ws last
-      go None x = record { good = g₁; asks = e₁; right = λ i l w a. absurd (never cc) }
+      go : (f : Option ℕ) → user_of z (tick s) ≡ f → Kept z Slot (used_by z f (tick s)) ws last
+      go None x = record { good = good_tick z s last g; asks = asks; right = λ i l w a. absurd (never cc) }
       go (Some u) x =
-          let s₁ : State = move_mark z t u in
+          let s₁ : State = move_mark z (tick s) u in
           let s₂ : State = order z s₁ u in
-          kept_tried s₂ u (good_order z s₁ u last g₁) (order_waiting s₁ u (user_waits z t u x)) (λ i. e₁ i ∙ sym (ordered_wish z s₁ u i))
-          (is_granted z s₂ u)
+          kept_tried s₂ u (good_order z s₁ u last (good_tick z s last g)) (order_waiting s₁ u (user_waits z (tick s) u x))
+          (λ i. asks i ∙ sym (ordered_wish z s₁ u i)) (is_granted z s₂ u)
 
   -- a new request
   kept_new : (s : State) (j l : ℕ) (o : Op) → j < z.cores → l < z.lines → (o ≡ Read → shapes s l j ≡ nothing) → Good z s last

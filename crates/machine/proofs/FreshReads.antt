@@ -4,13 +4,11 @@ use Rattle.std.proofs.lemmas.Bool.{eq-eqb, eqb-true, cases_eq}
 use Rattle.machine.specs.declared.call.Call.TheVariants.{Ask}
 use Rattle.machine.specs.declared.op.Op.{Op}
 use Rattle.machine.specs.declared.op.Op.TheVariants.{Read, Write}
-use Rattle.machine.specs.declared.sizes.Sizes.{Sizes}
 use Rattle.machine.specs.Answering.{Served, before, Unanswered, Answers, at_once, in_slot, Latest, starting, finished, kept}
 use Rattle.machine.specs.Asking.{asking}
 use Rattle.machine.specs.FreshReads.{ReadsAnswerTheLastFinishedWrite}
 use Rattle.machine.specs.History.{Start, sizes, Event, event, History, From, begun, called}
 use Rattle.machine.specs.Machine.{step}
-use Rattle.machine.specs.Parts.{is_waiting}
 use Rattle.machine.specs.Replies.{waits}
 use Rattle.machine.specs.State.{State}
 use Rattle.machine.proofs.CoherentCalls.{kept_from, story}
@@ -21,16 +19,11 @@ use Rattle.machine.proofs.Wishes.{Wish, wish, next_wish, wish_in, Answer, no_ans
 
 -- Unanswered asks ---------------------------------------------------------------------------------
 
--- only a core with a free request is told to wait
-waits_free : (z : Sizes) (s : State) (j l : ℕ) (o : Op) → waits ≡ (asking z j l o s).reply → is_waiting (s.requests j) ≡ false
-unfolding asking
-waits_free z s j l o e = grind arith
-
 -- an event that does not serve the core leaves what it waits for
 wish_kept : (b : Start) (i l : ℕ) (o : Op) (e : Event) (h : History) (s : State) → Earlier b e h s → wish_in h i ≡ wish l o
     → (is_served i (effect_of e) ≡ true → ⊥) → next_wish i (effect_of e) (wish l o) ≡ wish l o
-wish_kept b i l o e h s u w unserved =
-    grind (arith, u.replied, waits_free (sizes b) u.state, (story b u.from).asks i, eqb-true)
+unfolding asking
+wish_kept b i l o e h s u w unserved = grind (arith, u.replied, (story b u.from).asks i, eqb-true)
 
 unanswered_wish : (b : Start) (i l : ℕ) (o : Op) (since before_it : History) (s : State)
     → From b (since ++ (event (Ask i l o) waits ∷ before_it)) s → (Served i since → ⊥)
@@ -51,9 +44,6 @@ unanswered_more i l o e h n p =
     not_now : Served i (e ∷ p.0) → ⊥
     not_now y = elim (served_when i e p.0 y) [ inl d ↦ never cc | inr x ↦ p.1.unserved x ]
 
-none_served : (i : ℕ) → Served i [] → ⊥
-none_served i y = elim y [ ]
-
 -- a core waits because of this event, or did before
 wish_from : (i l : ℕ) (o : Op) (x : Effect) (old : Wish) → next_wish i x old ≡ wish l o
     → (x ≡ begins i l o) ⊎ ((is_served i x ≡ false) × (old ≡ wish l o))
@@ -63,7 +53,7 @@ wish_unanswered : (i l : ℕ) (o : Op) (h : History) → wish_in h i ≡ wish l 
 wish_unanswered i l o [] e = absurd (never cc)
 wish_unanswered i l o (e ∷ h) w =
     elim (wish_from i l o (effect_of e) (wish_in h i) w) [
-      | inl x ↦ ([], record { earlier = h; asked = ap (λ k. k ∷ h) (caused e (begins i l o) x); unserved = none_served i })
+      | inl x ↦ ([], record { earlier = h; asked = ap (λ k. k ∷ h) (caused e (begins i l o) x); unserved = λ y. elim y [ ] })
       | inr x ↦ unanswered_more i l o e h x.0 (wish_unanswered i l o h x.1)
     ]
 
