@@ -99,23 +99,29 @@ module _ (c D B : ℕ) where
       (λ z. not_yet l a (ap S (ap (λ n. owner_in c n o) (sym z) ∙ x.owns) ∙ x.first) (subst (λ n. K l a (n + 0)) z x.cleared)) x.first
       (λ n k. k)
 
-  -- the owner's request becomes ordered: after e slots nothing bars it
-  pub due_ordered : (n : ℕ) (K : ℕ → Type 0) (S : ℕ → Seat) (o u l a w e : ℕ) → Queues c n S → o < c → u < c → S u ≡ seated l a
-      → a < c → w ≤ c → ((k : ℕ) → e ≤ k → K k) → c + e + (c - 1) + (c - 1) * D ≤ B
-      → Track 0 K S o l a w
-  due_ordered n K S o u l a w e q ho hu s ha hw t b =
+  -- a request in order has a head, which owns a slot within c slots from the t-th on, when nothing bars it any more
+  track_from : (n d : ℕ) (K : ℕ → Type 0) (S : ℕ → Seat) (o u l a w t : ℕ) → Queues c n S → o < c → u < c → S u ≡ seated l a
+      → ((k : ℕ) → t ≤ k → K (k + d)) → w + (t + (c - 1) + d) + a * D ≤ B → Track d K S o l a w
+  track_from n d K S o u l a w t q ho hu s clear early =
       let h = q.filled l 0 (omega (arith, q.inside l a u hu s)) in
-      let r = owner_reaches_from c e o h.0 ho h.1 in
-      let a≤ : a ≤ c - 1 = omega arith in
+      let r = owner_reaches_from c t o h.0 ho h.1 in
       record {
         head = h.0;
         is_critical = h.1;
         first = h.2;
         at = r.0;
         owns = r.3;
-        cleared = t (r.0 + 0) (omega (arith, r.1));
-        in_time = omega (arith, r.2, mul-le-mul_right D a≤);
+        cleared = clear r.0 r.1;
+        in_time = omega (arith, early, r.2);
       }
+
+  -- the owner's request becomes ordered: after e slots nothing bars it
+  pub due_ordered : (n : ℕ) (K : ℕ → Type 0) (S : ℕ → Seat) (o u l a w e : ℕ) → Queues c n S → o < c → u < c → S u ≡ seated l a
+      → a < c → w ≤ c → ((k : ℕ) → e ≤ k → K k) → c + e + (c - 1) + (c - 1) * D ≤ B
+      → Track 0 K S o l a w
+  due_ordered n K S o u l a w e q ho hu s ha hw t b =
+      let a≤ : a ≤ c - 1 = omega arith in
+      track_from n 0 K S o u l a w e q ho hu s (λ k le. t (k + 0) (omega arith)) (omega (arith, mul-le-mul_right D a≤))
 
   -- the owner's request is granted, on the line l: the next of that line are due within D more
   module _ (n hc : ℕ) (K K' : ℕ → ℕ → ℕ → Type 0) (S S' : ℕ → Seat) (o l : ℕ)
@@ -124,17 +130,9 @@ module _ (c D B : ℕ) where
       (here : (a k m : ℕ) → K l (suc a) k → k ≤ m → hc ≤ m → K' l a m) (there : (l' a k : ℕ) → l' ≢ l → K l' a k → K' l' a k) where
     due_next : (i a b w : ℕ) → i < c → a ≡ suc b → S' i ≡ seated l b → Track 0 (K l a) S o l a w → Track 1 (K' l b) S' (next_owner c o) l b w
     due_next i a b w hi a_is e x =
-        let h = queues'.filled l 0 (omega (arith, queues'.inside l b i hi e)) in
-        let r = owner_reaches_from c (max x.at hc - 1) (next_owner c o) h.0 (next_below c o (omega arith)) h.1 in
-        record {
-          head = h.0;
-          is_critical = h.1;
-          first = h.2;
-          at = r.0;
-          owns = r.3;
-          cleared = here b (x.at + 0) (r.0 + 1) (rw a_is at x.cleared) (omega (arith, r.1)) (omega (arith, r.1));
-          in_time = omega (arith, rw a_is at x.in_time, r.2);
-        }
+        track_from n 1 (K' l b) S' (next_owner c o) i l b w (max x.at hc - 1) queues' (next_below c o (omega arith)) hi e
+        (λ k le. here b (x.at + 0) (k + 1) (rw a_is at x.cleared) (omega arith) (omega arith))
+        (omega (arith, rw a_is at x.in_time))
 
     due_elsewhere : (l' a w : ℕ) → l' ≢ l → Track 0 (K l' a) S o l' a w → Track 1 (K' l' a) S' (next_owner c o) l' a w
     due_elsewhere l' a w ne x =
