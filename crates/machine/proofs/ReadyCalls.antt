@@ -21,7 +21,7 @@ use Rattle.machine.proofs.Histories.{limits_from, lawful_from}
 use Rattle.setup.specs.Limits.{KeepsLimits}
 use Rattle.machine.proofs.Limits.{limits}
 use Rattle.machine.proofs.Queues.{queues_none}
-use Rattle.machine.proofs.Ready.{OverIn, Fit, Ready}
+use Rattle.machine.proofs.Ready.{Fit, Ready}
 use Rattle.machine.proofs.ReadySlot.{ready_slot}
 use Rattle.machine.proofs.ReadySteps.{ready_asked}
 
@@ -35,15 +35,9 @@ module _ (z : Sizes) (caps : Caps) (fit : Fit z caps) where
         timed = r.timed;
         capped = λ m k. grind (arith, r.capped m k);
         queues = r.queues;
-        due = λ j h. due_map _ _ _ 1 _ _ _ _ s.owner j
-            (λ _ _ _ e. e) (s.requests j) (λ m a n _ over. still m a n over) (r.due j h);
+        due = λ j h. due_map _ _ _ 1 _ _ _ _ s.owner j (λ _ _ _ e. e) (s.requests j)
+            (λ m a n _ over j k b hj seat b≤a way. grind (arith, over j k b hj seat b≤a)) (r.due j h);
       }
-    where
-      s' : State
-      s' = (write_hit i l (record old { word = w }) s).state
-
-      still : (m a n : ℕ) → OverIn z s m a n → OverIn z s' m a n
-      still m a n over j k b hj seat b≤a way = grind (arith, over j k b hj seat b≤a)
 
   ready_ask : (s : State) (i l : ℕ) (o : Op) → Ready z caps 1 s → Ready z caps 1 (asking z i l o s).state
   ready_ask s i l o r =

@@ -35,12 +35,9 @@ module _ (z : Sizes) (caps : Caps) (fit : Fit z caps) where
         timed = r.timed;
         capped = λ l j. grind (arith, r.capped l j);
         queues = queues_same _ _ _ _ (λ j _. grind arith) r.queues;
-        due = λ i h. due_tick _ _ _ _ _ _ _ s.owner i
-            fall (λ j. grind arith) (s.requests i) (r.due i h);
+        due = λ i h. due_tick _ _ _ _ _ _ _ s.owner i (λ l a n over i j b hi e ba w. grind (arith, over i j b hi)) (λ j. grind arith)
+            (s.requests i) (r.due i h);
       }
-    where
-      fall : (l a n : ℕ) → OverIn z s l a (n + 1) → OverIn z (tick s) l a (n + 0)
-      fall l a n h i j b hi e ba w = grind (arith, h i j b hi)
 
   pub ready_mark : (s : State) (u : ℕ) → Ready z caps 0 s → Ready z caps 0 (move_mark z s u)
   unfolding move_mark
