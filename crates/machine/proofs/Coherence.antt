@@ -1,10 +1,8 @@
 -- Coherence, line by line, for any type V of what a line holds: a writer is alone, and every copy has the last written value; with no
 -- writer, so has the memory.
-use Rattle.std.proofs.Common.{◌≡◌, ℕ, ◌<◌, ◌≤◌, ◌≢◌, ◌⊎◌, sym, ◌∙◌, inl, inr, arith}
-use Rattle.std.proofs.lemmas.Bool.{cases_eq}
+use Rattle.std.proofs.Common.{◌≡◌, ℕ, ◌<◌, ◌≤◌, ◌≢◌, sym, ◌∙◌, arith}
 use Rattle.machine.specs.declared.op.Op.{Op}
 use Rattle.machine.specs.declared.op.Op.TheVariants.{Read}
-use Rattle.machine.proofs.Counting.{never}
 use Rattle.machine.proofs.Wishes.{Wish, wish}
 
 -- a copy without its timers; V is what a line holds
@@ -14,15 +12,8 @@ pub data Shape (V : Type 0) : Type 0 where
   writes : V → Shape V
 
 abbrev pub no_writer : {V : Type 0} → Shape V → Shape V
-no_writer nothing = nothing
 no_writer (reads x) = reads x
-no_writer (writes x) = nothing
-
-no_writer_writes : {V : Type 0} (t : Shape V) (x : V) → no_writer t ≡ writes x → ⊥
-no_writer_writes t x e = grind arith
-
-no_writer_reads : {V : Type 0} (t : Shape V) (x : V) → no_writer t ≡ reads x → t ≡ reads x
-no_writer_reads t x e = grind arith
+no_writer _ = nothing
 
 -- One line: n cores with their shapes, the memory's word, the last write's word ------------------
 
@@ -37,43 +28,28 @@ pub line_same : {V : Type 0} (n : ℕ) (X X' : ℕ → Shape V) (m m' last last'
     → Line n X m last → Line n X' m' last'
 line_same n X X' m m' last last' x e v c =
     record {
-      alone = λ i j y e ne. x j ∙ c.alone i j y (sym (x i) ∙ e) ne;
-      inside = λ i h. x i ∙ c.inside i h;
-      read_word = λ i y e. c.read_word i y (sym (x i) ∙ e) ∙ sym v;
-      write_word = λ i y e. c.write_word i y (sym (x i) ∙ e) ∙ sym v;
-      home = λ h. e ∙ (c.home (λ i y e. h i y (x i ∙ e)) ∙ sym v);
+      alone = λ i j y w ne. grind (arith, x, c.alone i j y);
+      inside = λ i h. grind (arith, x, c.inside i);
+      read_word = λ i y r. grind (arith, x, c.read_word i y);
+      write_word = λ i y w. grind (arith, x, c.write_word i y);
+      home = λ h. e ∙ (c.home (λ i y w. h i y (x i ∙ w)) ∙ sym v);
     }
 
--- the memory's word changes under a writer, or not at all
-pub line_stored : {V : Type 0} (n : ℕ) (X : ℕ → Shape V) (m m' last : V) → ((i : ℕ) × (x : V) × (X i ≡ writes x)) ⊎ (m' ≡ m)
+-- the memory's word changes under a writer alone
+pub line_stored : {V : Type 0} (n : ℕ) (X : ℕ → Shape V) (m m' last : V) → (((i : ℕ) (x : V) → X i ≡ writes x → ⊥) → m' ≡ m)
     → Line n X m last → Line n X m' last
-line_stored n X m m' last d c =
-    record {
-      alone = c.alone;
-      inside = c.inside;
-      read_word = c.read_word;
-      write_word = c.write_word;
-      home = λ h. elim d [ inl w ↦ absurd (h w.0 w.1 w.2) | inr e ↦ e ∙ c.home h ];
-    }
+line_stored n X m m' last stays c =
+    record { alone = c.alone; inside = c.inside; read_word = c.read_word; write_word = c.write_word; home = λ h. stays h ∙ c.home h }
 
 -- one writer alone
 pub line_writer : {V : Type 0} (n : ℕ) (X : ℕ → Shape V) (m : V) (u : ℕ) (x : V) → u < n → X u ≡ writes x
     → ((i : ℕ) → i ≢ u → X i ≡ nothing) → Line n X m x
 line_writer n X m u x h e rest =
     record {
-      alone = λ i j y e' ne. elim (cases_eq i u) [
-        | inl same ↦ rest j (λ z. ne (z ∙ sym same))
-        | inr d ↦ absurd (let q = rest i d in never cc)
-      ];
+      alone = λ i j y w ne. grind (arith, rest i, rest j);
       inside = λ i a. rest i (omega arith);
-      read_word = λ i y e'. elim (cases_eq i u) [
-        | inl same ↦ absurd (let q : X u ≡ reads y = rw same at e' in never cc)
-        | inr d ↦ absurd (let q = rest i d in never cc)
-      ];
-      write_word = λ i y e'. elim (cases_eq i u) [
-        | inl same ↦ (let q : X u ≡ writes y = rw same at e' in cc)
-        | inr d ↦ absurd (let q = rest i d in never cc)
-      ];
+      read_word = λ i y r. grind (arith, rest i);
+      write_word = λ i y w. grind (arith, rest i);
       home = λ f. absurd (f u x e);
     }
 
@@ -81,23 +57,14 @@ line_writer n X m u x h e rest =
 pub line_reader : {V : Type 0} (n : ℕ) (X X' : ℕ → Shape V) (m m' last : V) (u : ℕ) → u < n → X' u ≡ reads last
     → ((i : ℕ) → i ≢ u → X' i ≡ no_writer (X i)) → m' ≡ last
     → Line n X m last → Line n X' m' last
-line_reader {V} n X X' m m' last u h e rest back c =
+line_reader n X X' m m' last u h e rest back c =
     record {
-      alone = λ i j y e' ne. absurd (none_writes i y e');
-      inside = λ i a. rest i (omega arith) ∙ rw (c.inside i a);
-      read_word = λ i y e'. elim (cases_eq i u) [
-        | inl same ↦ (let q : X' u ≡ reads y = rw same at e' in cc)
-        | inr d ↦ c.read_word i y (no_writer_reads (X i) y (sym (rest i d) ∙ e'))
-      ];
-      write_word = λ i y e'. absurd (none_writes i y e');
+      alone = λ i j y w ne. grind (arith, rest i);
+      inside = λ i a. grind (arith, rest i, c.inside i);
+      read_word = λ i y r. grind (arith, rest i, c.read_word i y);
+      write_word = λ i y w. grind (arith, rest i);
       home = λ f. back;
     }
-  where
-    none_writes : (i : ℕ) (y : V) → X' i ≡ writes y → ⊥
-    none_writes i y e' = elim (cases_eq i u) [
-      | inl same ↦ (let q : X' u ≡ writes y = rw same at e' in never cc)
-      | inr d ↦ no_writer_writes (X i) y (sym (rest i d) ∙ e')
-    ]
 
 -- All lines ---------------------------------------------------------------------------------------
 

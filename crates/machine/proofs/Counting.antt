@@ -1,6 +1,6 @@
 -- One place changed; counts and searches below a number.
 use Rattle.std.proofs.Common.{◌≡◌, ℕ, zero, suc, ◌+◌, ◌<◌, ◌≤◌, Bool, true, false, cond, eqb, ◌≢◌, Some, sym, refl, subst, inl, inr, arith}
-use Rattle.std.proofs.lemmas.Bool.{eq-eqb, ne_eqb, cases_eq, cases_lt}
+use Rattle.std.proofs.lemmas.Bool.{eq-eqb, ne_eqb, cases_eq}
 use Rattle.std.proofs.lemmas.Bool.Decides.{nat_tests}
 use Rattle.machine.specs.Places.{put, count_below, all_below, first_from}
 
@@ -35,17 +35,8 @@ pub count_one_less : (p q : ℕ → Bool) (i n : ℕ) → i < n → p i ≡ true
     → ((k : ℕ) → k ≢ i → p k ≡ q k) → count_below p n ≡ suc (count_below q n)
 count_one_less p q i zero l a b h = omega arith
 count_one_less p q i (suc n) l a b h =
-    elim (cases_eq i n) [
-      | inl e ↦
-          let a' : p n ≡ true = rw e at a in
-          let b' : q n ≡ false = rw e at b in
-          let same : count_below p n ≡ count_below q n = count_same p q n (λ k k<n. h k (omega arith)) in
-          rw (a', b', same)
-      | inr ne ↦
-          let ih = count_one_less p q i n (omega arith) a b h in
-          let e : p n ≡ q n = h n (omega arith) in
-          grind arith
-    ]
+    let same : i ≡ n → count_below p n ≡ count_below q n = λ e. count_same p q n (λ k k<n. h k (omega arith)) in
+    grind (arith, same, h n, count_one_less p q i n)
 
 pub count_none : (p : ℕ → Bool) (n : ℕ) → ((k : ℕ) → p k ≡ false) → count_below p n ≡ 0
 count_none p zero h = refl
@@ -59,14 +50,9 @@ count_capped p c (suc n) h = grind (arith, h n, count_le p n, count_capped p c n
 -- .. and one of them does not
 pub count_missed : (p : ℕ → Bool) (c i n : ℕ) → ((k : ℕ) → p k ≡ true → k < c) → i < c → p i ≡ false → count_below p n < c
 count_missed p c i n h l f =
-    elim (cases_lt i n) [
-      | inl i<n ↦
-          let q : ℕ → Bool = λ k. cond (eqb k i) true (p k) in
-          let more = count_one_less q p i n i<n (rw (eq-eqb i i refl)) f (λ k ne. rw (ne_eqb k i ne)) in
-          let below : (k : ℕ) → q k ≡ true → k < c = λ k t. grind (arith, nat_tests, h) in
-          omega (arith, more, count_capped q c n below)
-      | inr n≤i ↦ omega (arith, count_le p n)
-    ]
+    let q : ℕ → Bool = λ k. cond (eqb k i) true (p k) in
+    let below : (k : ℕ) → q k ≡ true → k < c = λ k t. grind (arith, nat_tests, h) in
+    grind (arith, count_one_less q p i n, count_capped q c n below, count_le p n)
 
 pub all_from : (p : ℕ → Bool) (n : ℕ) → ((i : ℕ) → i < n → p i ≡ true) → all_below p n ≡ true
 all_from p zero h = refl

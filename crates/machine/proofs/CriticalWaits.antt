@@ -1,15 +1,14 @@
 -- Critical waits are bounded.
-use Rattle.std.proofs.Common.{◌≡◌, ℕ, ◌⊎◌, ◌∷◌, ◌++◌, Some, None, Option, subst, inl, inr, arith}
+use Rattle.std.proofs.Common.{◌≡◌, ℕ, ◌⊎◌, ◌∷◌, ◌++◌, subst, inl, inr, arith}
 use Rattle.setup.specs.declared.refusal.Refusal.{Refusal}
 use Rattle.machine.specs.declared.call.Call.TheVariants.{Ask}
 use Rattle.machine.specs.declared.op.Op.{Op}
 use Rattle.machine.specs.declared.sizes.Sizes.{Sizes}
-use Rattle.machine.specs.Asking.{unless, ask_refusal, accepted, asking}
+use Rattle.machine.specs.Asking.{asking}
 use Rattle.machine.specs.CriticalWaits.{CriticalWaitsAreBounded}
 use Rattle.machine.specs.History.{sizes, event, From}
 use Rattle.machine.specs.Replies.{Reply, refused, hit, waits}
 use Rattle.machine.specs.State.{State}
-use Rattle.machine.proofs.Asks.{accepted_all}
 use Rattle.machine.proofs.Histories.{earlier, cut, limits_from, lawful_from}
 use Rattle.machine.proofs.ReadyCalls.{wait_below, bound_small}
 use Rattle.machine.proofs.StillWaiting.{still_from}
@@ -18,14 +17,7 @@ use Rattle.machine.proofs.StillWaiting.{still_from}
 ask_replies : (z : Sizes) (s : State) (i l : ℕ) (o : Op) (r : Reply) → r ≡ (asking z i l o s).reply → ((e : Refusal) → r ≡ refused e → ⊥)
     → ((w : ℕ) × (r ≡ hit w)) ⊎ (r ≡ waits)
 unfolding asking
-ask_replies z s i l o r e not_refused = go (ask_refusal z i l s) e
-  where
-    go : (v : Option Refusal) → r ≡ (unless v (accepted i l o (s.copies l i) s) s).reply → ((w : ℕ) × (r ≡ hit w)) ⊎ (r ≡ waits)
-    go None e =
-        accepted_all i l s (λ o x out. r ≡ out.reply → ((w : ℕ) × (r ≡ hit w)) ⊎ (r ≡ waits))
-        (λ o e. inr e) (λ copy e. inl (copy.word, e)) (λ w copy e. inr e) (λ w copy _ e. inl (w, e))
-        o (s.copies l i) e
-    go (Some refusal) e = absurd (not_refused refusal e)
+ask_replies z s i l o r e not_refused = grind arith
 
 pub critical_waits_are_bounded : CriticalWaitsAreBounded
 critical_waits_are_bounded b h s f later since before_it core line o r is not_refused critical =

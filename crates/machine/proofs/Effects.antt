@@ -1,5 +1,5 @@
 -- What an event does to requests, told from its call and reply.
-use Rattle.std.proofs.Common.{◌≡◌, ℕ, Bool, true, false, eqb, ◌⊎◌, ◌∷◌, Ok, sym, refl, ap, ◌∙◌, subst, inl, inr}
+use Rattle.std.proofs.Common.{arith, ◌≡◌, ℕ, Bool, true, false, eqb, ◌⊎◌, ◌∷◌, Ok, refl, subst, inl, inr}
 use Rattle.std.proofs.lemmas.Bool.{eq-eqb, eqb-true}
 use Rattle.machine.specs.declared.call.Call.{Call}
 use Rattle.machine.specs.declared.call.Call.TheVariants.{Ask, Slot}
@@ -11,7 +11,6 @@ use Rattle.machine.specs.declared.reply.SlotAnswer.TheVariants.{Done}
 use Rattle.machine.specs.Answering.{Served, now, before}
 use Rattle.machine.specs.History.{Event, event, History}
 use Rattle.machine.specs.Replies.{Reply, hit, waits, done}
-use Rattle.machine.proofs.Counting.{never}
 
 pub data Effect : Type 0 where
   no_effect : Effect
@@ -49,21 +48,15 @@ caused e x q = subst (λ y. Caused y e) q (caused_by e.call e.reply)
 -- Done slots of a core ----------------------------------------------------------------------------
 
 abbrev pub is_served : ℕ → Effect → Bool
-is_served i no_effect = false
-is_served i (begins j l o) = false
-is_served i (hits j l o w) = false
 is_served i (serves j w) = eqb i j
+is_served i _ = false
 
 pub served_now : (i : ℕ) (e : Event) (h : History) → is_served i (effect_of e) ≡ true → Served i (e ∷ h)
-served_now i e h t = go (effect_of e) refl t
+served_now i e h t = go e.call e.reply t
   where
-    go : (x : Effect) → effect_of e ≡ x → is_served i x ≡ true → Served i (e ∷ h)
-    go no_effect q t = absurd (never cc)
-    go (begins j l o) q t = absurd (never cc)
-    go (hits j l o w) q t = absurd (never cc)
-    go (serves j w) q t =
-        let y = caused e (serves i w) (q ∙ ap (λ k. serves k w) (sym (eqb-true i j t))) in
-        rw y.4 now
+    go : (c : Call) (r : Reply) → is_served i (effect c r) ≡ true → Served i (event c r ∷ h)
+    go Slot (Ok (ToSlot (Done owner user line role word wait))) t = rw (eqb-true i user t) now
+    go _ _ t = grind arith
 
 -- served by the latest event, or before
 pub served_when : (i : ℕ) (e : Event) (h : History) → Served i (e ∷ h) → (is_served i (effect_of e) ≡ true) ⊎ Served i h

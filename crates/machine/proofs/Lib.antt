@@ -2,7 +2,6 @@ pub mod Counting
 pub mod Owners
 pub mod Queues
 pub mod Seats
-pub mod Timers
 pub mod Due
 pub mod Grants
 pub mod Limits

@@ -1,5 +1,5 @@
 -- The owners of the slots to come, of c critical cores in turn.
-use Rattle.std.proofs.Common.{◌≡◌, ℕ, zero, suc, ◌+◌, ◌-◌, ◌<◌, ◌≤◌, cond, ltb, ◌∙◌, inl, inr, arith}
+use Rattle.std.proofs.Common.{◌≢◌, refl, ◌≡◌, ℕ, zero, suc, ◌+◌, ◌-◌, ◌<◌, ◌≤◌, cond, ltb, ◌∙◌, inl, inr, arith}
 use Rattle.std.proofs.lemmas.Bool.{cases_lt, lt-ltb, le-ltb}
 use Rattle.std.proofs.lemmas.Bool.Decides.{nat_tests}
 
@@ -13,6 +13,11 @@ next_below c o h = grind (arith, nat_tests)
 abbrev pub owner_in : ℕ → ℕ → ℕ → ℕ
 owner_in c zero o = o
 owner_in c (suc k) o = owner_in c k (next_owner c o)
+
+-- a slot later it is one slot less
+pub owner_sooner : (c k o : ℕ) → k ≢ 0 → owner_in c (k - 1) (next_owner c o) ≡ owner_in c k o
+owner_sooner c zero o some = absurd (some refl)
+owner_sooner c (suc k) o some = let less : suc k - 1 ≡ k = omega arith in rw less refl
 
 owner_add : (c a b o : ℕ) → owner_in c (a + b) o ≡ owner_in c b (owner_in c a o)
 owner_add c zero b o = let e : 0 + b ≡ b = omega arith in rw e

@@ -1,6 +1,6 @@
 -- The critical requests in order on each line: who sits where. There are c critical cores among n.
-use Rattle.std.proofs.Common.{◌≡◌, ℕ, suc, ◌-◌, ◌<◌, ◌≤◌, Bool, true, false, cond, ◌&&◌, eqb, ltb, ◌≢◌, ◌⊎◌, sym, refl, ap, ◌∙◌, ap₂, inl, inr, arith}
-use Rattle.std.proofs.lemmas.Bool.{eq-eqb, ne_eqb, cases_eq, cases_lt, and_parts, and_right, lt-ltb, ltb-true}
+use Rattle.std.proofs.Common.{◌≡◌, ℕ, suc, ◌-◌, ◌<◌, ◌≤◌, Bool, false, cond, ◌&&◌, eqb, ltb, ◌≢◌, ◌⊎◌, sym, ap, ◌∙◌, inl, inr, arith}
+use Rattle.std.proofs.lemmas.Bool.{cases_lt, eqb-true}
 use Rattle.std.proofs.lemmas.Bool.Decides.{nat_tests}
 use Rattle.machine.specs.Places.{count_below}
 use Rattle.machine.proofs.Counting.{never, count_same, count_one_less, count_none, count_missed}
@@ -19,22 +19,12 @@ abbrev pub up : ℕ → Seat → Seat
 up l unseated = unseated
 up l (seated l' a) = seated l' (cond (eqb l' l) (a - 1) a)
 
-pub up_here : (l a : ℕ) → up l (seated l a) ≡ seated l (a - 1)
-up_here l a = rw (eq-eqb l l refl)
-
-pub up_there : (l l' a : ℕ) → l' ≢ l → up l (seated l' a) ≡ seated l' a
-up_there l l' a h = rw (ne_eqb l' l h)
-
 on_up : (l l' : ℕ) (t : Seat) → on l' (up l t) ≡ on l' t
 on_up l l' t = grind arith
 
 -- a seat after the step comes from one before
 up_from : (l l' a : ℕ) (t : Seat) → up l t ≡ seated l' a → (a' : ℕ) × (t ≡ seated l' a') × (a ≡ cond (eqb l' l) (a' - 1) a')
-up_from l l' a unseated e = absurd (never cc)
-up_from l l' a (seated l'' a') e =
-    let same : l'' ≡ l' = cc in
-    let b : a ≡ cond (eqb l'' l) (a' - 1) a' = cc in
-    (a', ap (λ x. seated x a') same, rw same at b)
+up_from l l' a t e = grind (arith, eqb-true)
 
 module _ (c n : ℕ) where
   -- whether a critical core has a seat on the line, and how many have
@@ -49,12 +39,6 @@ module _ (c n : ℕ) where
     pub filled : (l k : ℕ) → k < len S l → (j : ℕ) × (j < c) × (S j ≡ seated l k)
     pub inside : (l a j : ℕ) → j < c → S j ≡ seated l a → a < len S l
     pub apart : (l a i j : ℕ) → i < c → j < c → S i ≡ seated l a → S j ≡ seated l a → i ≡ j
-
-sits_yes : (c : ℕ) (S : ℕ → Seat) (l a k : ℕ) → k < c → S k ≡ seated l a → ltb k c && on l (S k) ≡ true
-sits_yes c S l a k h e = rw (lt-ltb k c h, e, eq-eqb l l refl)
-
-sits_no : (c : ℕ) (t : Seat) (l k : ℕ) → on l t ≡ false → ltb k c && on l t ≡ false
-sits_no c t l k e = and_right (ltb k c) (on l t) e
 
 -- nothing changes where no critical core's seat does
 len_same : (c n : ℕ) (S S' : ℕ → Seat) (l : ℕ) → ((j : ℕ) → j < c → on l (S' j) ≡ on l (S j)) → len c n S' l ≡ len c n S l
@@ -83,13 +67,12 @@ queues_none c n =
     }
   where
     empty : (l : ℕ) → len c n (λ j. unseated) l ≡ 0
-    empty l = count_none (sits c n (λ j. unseated) l) n (λ k. sits_no c unseated l k refl)
+    empty l = count_none (sits c n (λ j. unseated) l) n (λ k. grind arith)
 
 -- fewer sit on a line than there are, where one sits nowhere
 pub len_missed : (c n : ℕ) (S : ℕ → Seat) (l u : ℕ) → u < c → S u ≡ unseated → len c n S l < c
 unfolding len
-len_missed c n S l u h e =
-    count_missed (sits c n S l) c u n (λ k t. ltb-true k c (and_parts (ltb k c) (on l (S k)) t).0) h (sits_no c (S u) l u (rw e))
+len_missed c n S l u h e = count_missed (sits c n S l) c u n (λ k t. grind (arith, nat_tests)) h (grind arith)
 
 -- a core that sits nowhere takes the last seat of a line
 module _ (c n : ℕ) (c≤n : c ≤ n) (S S' : ℕ → Seat) (u l : ℕ) (u<c : u < c)
@@ -97,101 +80,51 @@ module _ (c n : ℕ) (c≤n : c ≤ n) (S S' : ℕ → Seat) (u l : ℕ) (u<c : 
   join_len : len c n S' l ≡ suc (len c n S l)
   unfolding len
   join_len =
-      count_one_less (sits c n S' l) (sits c n S l) u n (omega arith) (sits_yes c S' l (len c n S l) u u<c now_is)
-      (sits_no c (S u) l u (rw was)) (λ k ne. rw (rest k ne))
+      count_one_less (sits c n S' l) (sits c n S l) u n (omega arith) (grind (arith, nat_tests)) (grind (arith, nat_tests))
+      (λ k ne. rw (rest k ne))
 
   join_len_other : (l' : ℕ) → l ≢ l' → len c n S' l' ≡ len c n S l'
   join_len_other l' ne = len_same c n S S' l' (λ j _. grind (arith, nat_tests, rest j))
-
-  not_user : (j l' a : ℕ) → S j ≡ seated l' a → j ≢ u
-  not_user j l' a e same = never cc
 
   join_from : (j l' a : ℕ) → S' j ≡ seated l' a
       → ((j ≡ u) × (l ≡ l') × (a ≡ len c n S l)) ⊎ ((j ≢ u) × (S j ≡ seated l' a))
   join_from j l' a e = grind (arith, rest j)
 
-  join_len_more : (l' : ℕ) → len c n S l' ≤ len c n S' l'
-  join_len_more l' = grind (arith, join_len, join_len_other l')
-
-  join_filled : Queues c n S → (l' k : ℕ) → k < len c n S' l' → (j : ℕ) × (j < c) × (S' j ≡ seated l' k)
-  join_filled q l' k a =
-      elim (cases_lt k (len c n S l')) [
-        | inl b ↦ let r = q.filled l' k b in (r.0, r.1, rest r.0 (not_user r.0 l' k r.2) ∙ r.2)
-        | inr b ↦ elim (cases_eq l l') [
-          | inl e ↦
-              let x : len c n S' l' ≡ suc (len c n S l') = rw e at join_len in
-              let y : S' u ≡ seated l' (len c n S l') = rw e at now_is in
-              let v : k ≡ len c n S l' = omega arith in (u, u<c, cc)
-          | inr d ↦ absurd (omega (arith, join_len_other l' d))
-        ]
-      ]
-
-  join_inside : Queues c n S → (l' a j : ℕ) → j < c → S' j ≡ seated l' a → a < len c n S' l'
-  join_inside q l' a j b e = grind (arith, join_from j l' a e, join_len, join_len_more l', q.inside l' a j)
-
-  join_apart : Queues c n S → (l' a i j : ℕ) → i < c → j < c → S' i ≡ seated l' a → S' j ≡ seated l' a → i ≡ j
-  join_apart q l' a i j hi hj ei ej =
-      grind (arith, join_from i l' a ei, join_from j l' a ej, q.inside l' a, q.apart l' a i j)
-
   pub join : Queues c n S → Queues c n S'
-  join q = record { filled = join_filled q; inside = join_inside q; apart = join_apart q }
+  join q =
+      record {
+        filled = λ l' k a. elim (cases_lt k (len c n S l')) [
+          | inl b ↦ let r = q.filled l' k b in (r.0, r.1, grind (arith, rest r.0))
+          | inr b ↦ (u, u<c, grind (arith, join_len, join_len_other l'))
+        ];
+        inside = λ l' a j b e. grind (arith, join_from j l' a e, join_len, join_len_other l', q.inside l' a j);
+        apart = λ l' a i j hi hj ei ej. grind (arith, join_from i l' a ei, join_from j l' a ej, q.inside l' a, q.apart l' a i j);
+      }
 
 -- the first of a line leaves, and the others of that line move up
 module _ (c n : ℕ) (c≤n : c ≤ n) (S S' : ℕ → Seat) (u l : ℕ) (u<c : u < c)
     (was : S u ≡ seated l 0) (now_is : S' u ≡ unseated) (rest : (j : ℕ) → j < c → j ≢ u → S' j ≡ up l (S j)) where
   pub leave_from : Queues c n S → (j l' a : ℕ) → j < c → S' j ≡ seated l' a
       → (j ≢ u) × (((l ≡ l') × (S j ≡ seated l' (suc a))) ⊎ ((l ≢ l') × (S j ≡ seated l' a)))
-  leave_from q j l' a b e =
-      elim (cases_eq j u) [
-        | inl same ↦ absurd (let x : S' u ≡ seated l' a = rw same at e in never cc)
-        | inr d ↦
-            let f = up_from l l' a (S j) (sym (rest j b d) ∙ e) in (
-              d,
-              elim (cases_eq l l') [
-                | inl same ↦
-                    let pos : f.0 ≢ 0 = λ z. d (q.apart l 0 j u b u<c (f.1 ∙ ap₂ seated (sym same) z) was) in
-                    let x : a ≡ f.0 - 1 = f.2 ∙ rw (eq-eqb l' l (sym same)) in
-                    let y : f.0 ≡ suc a = omega arith in
-                    inl (same, f.1 ∙ ap (seated l') y)
-                | inr ne ↦
-                    let x : a ≡ f.0 = f.2 ∙ rw (ne_eqb l' l (λ z. ne (sym z))) in
-                    inr (ne, f.1 ∙ ap (seated l') (sym x))
-              ],
-            )
-      ]
+  leave_from q j l' a b e = grind (arith, rest j, up_from l l' a (S j), q.apart l 0 j u)
 
   leave_len : len c n S l ≡ suc (len c n S' l)
   unfolding len
   leave_len =
-      count_one_less (sits c n S l) (sits c n S' l) u n (omega arith) (sits_yes c S l 0 u u<c was)
-      (sits_no c (S' u) l u (rw now_is)) (λ k ne. grind (arith, nat_tests, rest k, on_up l l (S k)))
+      count_one_less (sits c n S l) (sits c n S' l) u n (omega arith) (grind (arith, nat_tests)) (grind (arith, nat_tests))
+      (λ k ne. grind (arith, nat_tests, rest k, on_up l l (S k)))
 
   leave_len_other : (l' : ℕ) → l ≢ l' → len c n S' l' ≡ len c n S l'
   leave_len_other l' ne = len_same c n S S' l' (λ j a. grind (arith, nat_tests, rest j, on_up l l' (S j)))
 
-  leave_filled : Queues c n S → (l' k : ℕ) → k < len c n S' l' → (j : ℕ) × (j < c) × (S' j ≡ seated l' k)
-  leave_filled q l' k a =
-      elim (cases_eq l l') [
-        | inl e ↦
-            let v : len c n S l ≡ len c n S l' = ap (len c n S) e in
-            let x : len c n S l' ≡ suc (len c n S' l') = rw e at leave_len in
-            let r = q.filled l (suc k) (omega arith) in
-            let d : r.0 ≢ u = λ same. let x : S u ≡ seated l (suc k) = rw same at r.2 in let z : 0 ≡ suc k = cc in omega arith in
-            let less : suc k - 1 ≡ k = omega arith in
-            (r.0, r.1, rest r.0 r.1 d ∙ (ap (up l) r.2 ∙ (up_here l (suc k) ∙ rw (less, e))))
-        | inr d ↦
-            let r = q.filled l' k (rw (leave_len_other l' d) at a) in
-            let ne : r.0 ≢ u = λ same. let x : S u ≡ seated l' k = rw same at r.2 in d cc in
-            (r.0, r.1, rest r.0 r.1 ne ∙ (ap (up l) r.2 ∙ up_there l l' k (λ e. d (sym e))))
-      ]
-
-  leave_inside : Queues c n S → (l' a j : ℕ) → j < c → S' j ≡ seated l' a → a < len c n S' l'
-  leave_inside q l' a j b e =
-      grind (arith, leave_from q j l' a b e, leave_len, leave_len_other l', q.inside l' (suc a) j, q.inside l' a j)
-
-  leave_apart : Queues c n S → (l' a i j : ℕ) → i < c → j < c → S' i ≡ seated l' a → S' j ≡ seated l' a → i ≡ j
-  leave_apart q l' a i j hi hj ei ej =
-      grind (arith, leave_from q i l' a hi ei, leave_from q j l' a hj ej, q.apart l' (suc a) i j, q.apart l' a i j)
-
   pub leave : Queues c n S → Queues c n S'
-  leave q = record { filled = leave_filled q; inside = leave_inside q; apart = leave_apart q }
+  leave q =
+      record {
+        filled = λ l' k a.
+            let r = q.filled l' (cond (eqb l l') (suc k) k) (grind (arith, leave_len, leave_len_other l')) in
+            (r.0, r.1, grind (arith, rest r.0));
+        inside = λ l' a j b e.
+            grind (arith, leave_from q j l' a b e, leave_len, leave_len_other l', q.inside l' (suc a) j, q.inside l' a j);
+        apart = λ l' a i j hi hj ei ej.
+            grind (arith, leave_from q i l' a hi ei, leave_from q j l' a hj ej, q.apart l' (suc a) i j, q.apart l' a i j);
+      }

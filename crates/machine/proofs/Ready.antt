@@ -1,7 +1,8 @@
 -- A hub is ready for its critical requests: what holds at every call, so that they are served in time. It speaks of owner, turn mark,
 -- policy, copies and requests, each by itself, and not of the memory.
-use Rattle.std.proofs.Common.{◌≡◌, ℕ, ◌+◌, ◌-◌, ◌<◌, ◌≤◌, max, true, ◌&&◌, ap, inl, inr, arith, Option}
-use Rattle.std.proofs.lemmas.Bool.{cases_lt, lt-ltb, le-ltb}
+use Rattle.std.proofs.Common.{◌≡◌, ℕ, ◌+◌, ◌-◌, ◌<◌, ◌≤◌, max, true, ◌&&◌, arith, Option}
+use Rattle.std.proofs.lemmas.Bool.{lt-ltb, le-ltb}
+use Rattle.std.proofs.lemmas.Bool.Decides.{nat_tests}
 use Rattle.setup.specs.Bound.{Caps, bound}
 use Rattle.policy.specs.Timing.{Timing, Lawful, later}
 use Rattle.setup.specs.Classes.{of_class}
@@ -18,7 +19,7 @@ use Rattle.machine.proofs.Counting.{count_same}
 use Rattle.machine.proofs.Due.{Due}
 use Rattle.machine.proofs.Owners.{next_owner, next_below}
 use Rattle.machine.proofs.Queues.{Seat, seated, sits, len, Queues}
-use Rattle.machine.proofs.Seats.{seat_of, seat_on}
+use Rattle.machine.proofs.Seats.{seat_of}
 
 abbrev pub timers : State → ℕ → ℕ → ℕ
 timers s l j = timer Critical (s.copies l j)
@@ -76,7 +77,7 @@ pub queue_seats : (z : Sizes) (s : State) (l : ℕ) → queue_length z s Critica
 unfolding queue_length len
 queue_seats z s l = count_same (λ k. is_of z Critical k && is_ordered_on l (s.requests k)) (sits z.critical z.cores (seats s) l)
     z.cores
-    (λ k _. rw (seat_on l (s.requests k)))
+    (λ k _. grind arith)
 
 pub class_critical : (z : Sizes) (u : ℕ) → u < z.critical → class_of z u ≡ Critical
 class_critical z u h = rw (lt-ltb u z.critical h)
@@ -103,9 +104,4 @@ module _ (z : Sizes) (caps : Caps) (fit : Fit z caps) where
 
   pub hold_small : (d : ℕ) (s : State) (u l : ℕ) → Ready z caps d s → s.timing.hold 0 u (class_of z u) l Critical ≤ longest_hold z caps
   hold_small d s u l r =
-      elim (cases_lt u z.critical) [
-        | inl h ↦ rw (class_critical z u h)
-            (omega (arith, r.timed.lawful.capped 0 u Critical l, ap (λ c. of_class c Critical) r.timed.same_caps))
-        | inr h ↦ rw (class_other z u h)
-            (omega (arith, r.timed.lawful.capped 0 u NonCritical l, ap (λ c. of_class c NonCritical) r.timed.same_caps))
-      ]
+      grind (arith, nat_tests, r.timed.lawful.capped 0 u Critical l, r.timed.lawful.capped 0 u NonCritical l, r.timed.same_caps)

@@ -1,107 +1,48 @@
 -- Every call keeps a hub ready, and so it is in every state reached.
-use Rattle.std.proofs.Common.{◌≡◌, ℕ, ◌+◌, ◌-◌, ◌*◌, ◌<◌, ◌≤◌, true, false, Some, None, Option, sym, refl, ap, ◌∙◌, subst, mul-le-mul, arith}
-use Rattle.setup.specs.Bound.{Caps, bound}
-use Rattle.setup.specs.declared.refusal.Refusal.{Refusal}
+use Rattle.std.proofs.Common.{◌≡◌, ℕ, ◌+◌, ◌-◌, ◌*◌, ◌<◌, ◌≤◌, true, Some, sym, refl, subst, mul-le-mul, arith}
+use Rattle.setup.specs.Bound.{Caps}
 use Rattle.policy.specs.Timing.{Lawful}
-use Rattle.setup.specs.declared.class.Class.{Class}
 use Rattle.setup.specs.declared.class.Class.TheVariants.{Critical, NonCritical}
 use Rattle.machine.specs.declared.call.Call.{Call}
 use Rattle.machine.specs.declared.call.Call.TheVariants.{Ask, Slot, Settle, WordOf, StateOf, BoundOf}
 use Rattle.machine.specs.declared.held.Held.{Held}
 use Rattle.machine.specs.declared.op.Op.{Op}
-use Rattle.machine.specs.declared.op.Op.TheVariants.{Read, Write}
-use Rattle.machine.specs.declared.request.Request.{Request}
-use Rattle.machine.specs.declared.request.Request.TheVariants.{Free, Asked, Ordered}
 use Rattle.machine.specs.declared.sizes.Sizes.{Sizes}
-use Rattle.machine.specs.Asking.{unless, ask_refusal, write_hit, accepted, asking}
-use Rattle.machine.specs.Granting.{in_way}
+use Rattle.machine.specs.Asking.{write_hit, asking}
 use Rattle.machine.specs.History.{Start, sizes, longest_wait, History, From, begun, called}
 use Rattle.machine.specs.Machine.{step}
-use Rattle.machine.specs.Parts.{timer, is_waiting, op_of, wait_of}
-use Rattle.machine.specs.Places.{put}
+use Rattle.machine.specs.Parts.{is_waiting, wait_of}
 use Rattle.machine.specs.Questions.{telling_word, telling_state}
 use Rattle.machine.specs.Settling.{settling}
 use Rattle.machine.specs.State.{State}
-use Rattle.machine.proofs.Asks.{ask_accepted, accepted_all, unless_same}
-use Rattle.machine.proofs.Counting.{never, put_all}
-use Rattle.machine.proofs.Due.{Due, due_map}
+use Rattle.machine.proofs.Asks.{ask_all, unless_same}
+use Rattle.machine.proofs.Due.{due_map}
 use Rattle.machine.proofs.Histories.{limits_from, lawful_from}
 use Rattle.setup.specs.Limits.{KeepsLimits}
 use Rattle.machine.proofs.Limits.{limits}
 use Rattle.machine.proofs.Queues.{queues_none}
-use Rattle.machine.proofs.Ready.{timers, seats, OverIn, Fit, gap, Ready}
+use Rattle.machine.proofs.Ready.{Fit, Ready}
 use Rattle.machine.proofs.ReadySlot.{ready_slot}
 use Rattle.machine.proofs.ReadySteps.{ready_asked}
 
--- A write hit touches no timer, and the copy stays in the way of the same requests.
-module _ (s : State) (l i w : ℕ) (old : Held) (was : s.copies l i ≡ Some old) where
-  abbrev new : Held
-  new = record old { word = w }
-
-  hit_all : (P : ℕ → ℕ → Option Held → Type 0) → P l i (Some new) → ((m k : ℕ) → P m k (s.copies m k))
-      → (m k : ℕ) → P m k (put l (put i (Some new) (s.copies l)) s.copies m k)
-  hit_all P here rest m =
-      put_all (λ n f. (k : ℕ) → P n k (f k)) l (put i (Some new) (s.copies l)) s.copies
-      (λ k. put_all (P l) i (Some new) (s.copies l) here (λ j _. rest l j) k) (λ n _ k. rest n k) m
-
-  hit_timer : (c : Class) (m k : ℕ) → timer c (put l (put i (Some new) (s.copies l)) s.copies m k) ≡ timer c (s.copies m k)
-  hit_timer c = hit_all (λ m k x. timer c x ≡ timer c (s.copies m k)) (sym (ap (timer c) was)) (λ m k. refl)
-
-  hit_way : (j : ℕ) (o : Op) (m k : ℕ)
-      → in_way j o k (put l (put i (Some new) (s.copies l)) s.copies m k) ≡ in_way j o k (s.copies m k)
-  hit_way j o = hit_all (λ m k x. in_way j o k x ≡ in_way j o k (s.copies m k)) (both o ∙ sym (ap (in_way j o i) was)) (λ m k. refl)
-    where
-      both : (o : Op) → in_way j o i (Some new) ≡ in_way j o i (Some old)
-      both Read = refl
-      both (Write v) = refl
-
 module _ (z : Sizes) (caps : Caps) (fit : Fit z caps) where
-  abbrev C : ℕ
-  C = z.critical
-
-  abbrev D : ℕ
-  D = gap z caps
-
-  abbrev B : ℕ
-  B = bound z.critical caps
-
+  -- a write hit touches no timer, and the copy stays in the way of the same requests
   ready_hit : (s : State) (i l w : ℕ) (old : Held) → s.copies l i ≡ Some old → Ready z caps 1 s
       → Ready z caps 1 (write_hit i l (record old { word = w }) s).state
   ready_hit s i l w old was r =
       record {
         in_turn = r.in_turn;
         timed = r.timed;
-        capped = λ m k. omega (arith, same m k, r.capped m k);
+        capped = λ m k. grind (arith, r.capped m k);
         queues = r.queues;
-        due = λ j h. due_map C D B 1 (OverIn z s) (OverIn z s') (seats s) (seats s) s.owner j
-            (λ _ _ _ e. e) (s.requests j) (λ m a n _ over. still m a n over) (r.due j h);
+        due = λ j h. due_map _ _ _ 1 _ _ _ _ s.owner j (λ _ _ _ e. e) (s.requests j)
+            (λ m a n _ over j k b hj seat b≤a way. grind (arith, over j k b hj seat b≤a)) (r.due j h);
       }
-    where
-      s' : State
-      s' = (write_hit i l (record old { word = w }) s).state
-
-      same : (m k : ℕ) → timers s' m k ≡ timers s m k
-      same = hit_timer s l i w old was Critical
-
-      still : (m a n : ℕ) → OverIn z s m a n → OverIn z s' m a n
-      still m a n over j k b hj seat b≤a way =
-          omega (arith, same m k, over j k b hj seat b≤a (sym (hit_way s l i w old was j (op_of (s.requests j)) m k) ∙ way))
-
-  ready_accepted : (s : State) (i l : ℕ) (o : Op) (x : Option Held) → s.copies l i ≡ x → is_waiting (s.requests i) ≡ false → Ready z caps 1 s
-      → Ready z caps 1 (accepted i l o x s).state
-  ready_accepted s i l o x was free r =
-      accepted_all i l s (λ o x out. s.copies l i ≡ x → Ready z caps 1 out.state)
-      (λ o _. ready_asked z caps fit s i l o free r) (λ copy _. r)
-      (λ w copy _. ready_asked z caps fit s i l (Write w) free r) (λ w copy writers was. ready_hit s i l w copy was r)
-      o x was
 
   ready_ask : (s : State) (i l : ℕ) (o : Op) → Ready z caps 1 s → Ready z caps 1 (asking z i l o s).state
-  unfolding asking
-  ready_ask s i l o r = go (ask_refusal z i l s) refl
-    where
-      go : (v : Option Refusal) → ask_refusal z i l s ≡ v → Ready z caps 1 (unless v (accepted i l o (s.copies l i) s) s).state
-      go None e = ready_accepted s i l o (s.copies l i) refl (ask_accepted z i l s e).2 r
-      go (Some refusal) e = r
+  ready_ask s i l o r =
+      ask_all z i l s (λ o out. Ready z caps 1 out.state) (λ _ _. r) (λ o _ _ free _. ready_asked z caps fit s i l o free r)
+      (λ _ _. r) (λ w copy _ was _. ready_hit s i l w copy was r) o
 
   ready_step : (s : State) (c : Call) → Ready z caps 1 s → Ready z caps 1 (step z c s).state
   unfolding settling telling_word telling_state
@@ -132,19 +73,11 @@ ready_from b (called {s = s} c f) = ready_step (sizes b) b.timing.caps (fit_from
 -- between calls a critical request has waited less than the bound
 pub wait_below : (b : Start) {h : History} {s : State} → From b h s → (i : ℕ) → i < b.setup.critical → is_waiting (s.requests i) ≡ true
     → wait_of (s.requests i) < longest_wait b
-wait_below b {h} {s} f i a t = go (s.requests i) t ((ready_from b f).due i a)
-  where
-    z : Sizes
-    z = sizes b
-
-    fit : Fit z b.timing.caps
-    fit = fit_from b f
-
-    go : (r : Request) → is_waiting r ≡ true
-        → Due z.critical (gap z b.timing.caps) (longest_wait b) 1 (OverIn z s) (seats s) s.owner i r → wait_of r < longest_wait b
-    go Free t x = absurd (never cc)
-    go (Asked l o w) t x = omega (arith, x.2, fit.some_critical, fit.some_caps Critical)
-    go (Ordered l o a w) t x = omega (arith, x.in_time)
+wait_below b {h} {s} f i a t =
+    let fit = fit_from b f in
+    let few = fit.some_caps Critical in
+    let due = (ready_from b f).due i a in
+    grind arith
 
 -- .. so that no wait count stops short of it
 pub bound_small : (b : Start) → KeepsLimits b.setup → Lawful b.timing → longest_wait b < 4294967295

@@ -1,77 +1,50 @@
 -- A grant keeps a hub ready.
-use Rattle.std.proofs.Common.{◌≡◌, ℕ, suc, ◌+◌, ◌<◌, ◌≤◌, max, true, false, ◌≢◌, ◌⊎◌, sym, refl, ap, ◌∙◌, inl, inr, arith, Some}
+use Rattle.std.proofs.Common.{◌≡◌, ℕ, suc, ◌+◌, ◌<◌, ◌≤◌, max, true, false, ◌≢◌, ◌⊎◌, sym, refl, ap, ◌∙◌, inl, inr, arith}
 use Rattle.std.proofs.lemmas.Bool.{cases_eq}
-use Rattle.setup.specs.Bound.{Caps, bound}
-use Rattle.setup.specs.Classes.{of_class}
+use Rattle.std.proofs.lemmas.Bool.Decides.{nat_tests}
+use Rattle.setup.specs.Bound.{Caps}
 use Rattle.setup.specs.declared.class.Class.TheVariants.{Critical}
+use Rattle.machine.specs.declared.op.Op.{Op}
 use Rattle.machine.specs.declared.sizes.Sizes.{Sizes}
-use Rattle.machine.specs.Grant.{ended, loaded, grant}
+use Rattle.machine.specs.Grant.{loaded, grant}
 use Rattle.machine.specs.Granting.{in_way}
 use Rattle.machine.specs.Order.{queue_length}
-use Rattle.machine.specs.Parts.{timer, is_waiting, op_of}
+use Rattle.machine.specs.Parts.{is_waiting, op_of}
 use Rattle.machine.specs.Slot.{end_slot}
 use Rattle.machine.specs.State.{State, class_of}
 use Rattle.machine.proofs.Counting.{never}
 use Rattle.machine.proofs.Due.{due_map, due_pass, due_grant}
-use Rattle.machine.proofs.Grants.{the_line, the_way, new_copy, grant_there, grant_new, grant_rest, grant_user, grant_others}
+use Rattle.machine.proofs.Grants.{the_line, grant_there, grant_new, grant_rest, grant_user, grant_others}
 use Rattle.machine.proofs.Owners.{next_owner}
-use Rattle.machine.proofs.Queues.{unseated, seated, up, Queues, queues_same, leave_from, leave}
-use Rattle.machine.proofs.Ready.{timers, seats, OverIn, Fit, gap, longest_hold, DueIn, Ready, queue_seats, class_critical, class_other, timed_later, turn_after, hold_small}
-use Rattle.machine.proofs.Seats.{seat_of, raised, raised_seat, raised_op, free_unseated, up_critical, up_other}
-use Rattle.machine.proofs.Timers.{timer_ended, timer_kept}
+use Rattle.machine.proofs.Queues.{seated, up, Queues, queues_same, leave_from, leave}
+use Rattle.machine.proofs.Ready.{timers, seats, OverIn, Fit, longest_hold, DueIn, Ready, queue_seats, class_critical, class_other, hold_small}
+use Rattle.machine.proofs.Seats.{seat_of, raised}
+use Rattle.machine.proofs.ReadySteps.{ready_next}
 
 module _ (z : Sizes) (caps : Caps) (fit : Fit z caps) where
-  abbrev C : ℕ
-  C = z.critical
-
-  abbrev D : ℕ
-  D = gap z caps
-
-  abbrev B : ℕ
-  B = bound z.critical caps
-
   -- after a grant: the new timer, and those of its line, and no other
   grant_here : (s : State) (u m : ℕ) → s.timing.hold 0 u (class_of z u) (the_line z s u) Critical ≤ m
       → (j : ℕ) → timers (grant z s u) (the_line z s u) j ≤ max (timers s (the_line z s u) j) m
   unfolding loaded
-  grant_here s u m h j =
-      elim (cases_eq j u) [
-        | inl e ↦ rw (e, ap (timer Critical) (grant_new z s u)) (omega arith)
-        | inr ne ↦ omega (arith, ap (timer Critical) (grant_rest z s u j ne), timer_ended (the_way z s u) (s.copies (the_line z s u)) j)
-      ]
-
-  ready_after : (s : State) (u : ℕ) → Ready z caps 0 s → ((l j : ℕ) → timers (grant z s u) l j ≤ longest_hold z caps)
-      → Queues z.critical z.cores (seats (grant z s u))
-      → ((i : ℕ) → i < z.critical
-      → DueIn z caps 1 (grant z s u).copies (grant z s u).requests (next_owner z.critical s.owner) i
-      ((grant z s u).requests i))
-      → Ready z caps 1 (end_slot z (grant z s u))
-  unfolding end_slot grant
-  ready_after s u r c q d =
-      record {
-        in_turn = turn_after z caps fit s.owner s.mark r.in_turn;
-        timed = timed_later caps s.timing r.timed;
-        capped = λ l j. omega (arith, c l j, fit.some_caps Critical);
-        queues = q;
-        due = d;
-      }
+  grant_here s u m h j = grind (arith, grant_new z s u, grant_rest z s u j)
 
   grant_capped : (s : State) (u : ℕ) → Ready z caps 0 s → (l j : ℕ) → timers (grant z s u) l j ≤ longest_hold z caps
   grant_capped s u r l j =
-      elim (cases_eq l (the_line z s u)) [
-        | inl e ↦ rw e (omega
-            (arith, grant_here s u (longest_hold z caps) (hold_small z caps fit 0 s u (the_line z s u) r) j, r.capped (the_line z s u) j))
-        | inr ne ↦ omega (arith, ap (timer Critical) (grant_there z s u l j ne), r.capped l j)
-      ]
+      grind (arith, grant_here s u (longest_hold z caps) (hold_small z caps fit 0 s u (the_line z s u) r) j, r.capped l j, grant_there z s u l j)
 
-  new_left : (s : State) (u : ℕ) → timer Critical (Some (new_copy z s u)) ≡ s.timing.hold 0 u (class_of z u) (the_line z s u) Critical
+  -- .. and what is in the way there is the new copy, or was in the way before
+  grant_over : (s : State) (u i j k m : ℕ) (o : Op) → s.timing.hold 0 u (class_of z u) (the_line z s u) Critical ≤ m → k ≤ m
+      → (in_way i o j (s.copies (the_line z s u) j) ≡ true → timers s (the_line z s u) j ≤ k)
+      → in_way i o j ((grant z s u).copies (the_line z s u) j) ≡ true → timers (grant z s u) (the_line z s u) j ≤ m
   unfolding loaded
-  new_left s u = refl
+  grant_over s u i j k m o h le over w =
+      grind (arith, grant_new z s u, grant_rest z s u j)
 
   -- the owner's request is granted
   pub ready_granted : (s : State) (u : ℕ) → u ≡ s.owner → seats s u ≡ seated (the_line z s u) 0 → Ready z caps 0 s
       → Ready z caps 1 (end_slot z (grant z s u))
-  ready_granted s u is_owner e r = ready_after s u r (grant_capped s u r) q' (λ i h. at i h)
+  unfolding grant
+  ready_granted s u is_owner e r = ready_next z caps fit s' r.in_turn r.timed (grant_capped s u r) q' (λ i h. at i h)
     where
       h : u < z.critical
       h = rw is_owner r.in_turn.owner_critical
@@ -82,71 +55,41 @@ module _ (z : Sizes) (caps : Caps) (fit : Fit z caps) where
       l : ℕ
       l = the_line z s u
 
-      leaves : seats s' u ≡ unseated
-      leaves = ap seat_of (grant_user z s u)
-
       rest : (j : ℕ) → j < z.critical → j ≢ u → (grant z s u).requests j ≡ raised l (s.requests j)
-      rest j a ne = grant_others z s u j ne ∙ rw (class_critical z u h) (up_critical z l j (s.requests j) a)
+      rest j a ne = grind (arith, grant_others z s u j, class_critical z u h, nat_tests)
 
       rest_seat : (j : ℕ) → j < z.critical → j ≢ u → seats s' j ≡ up l (seats s j)
-      rest_seat j a ne = ap seat_of (rest j a ne) ∙ raised_seat l (s.requests j)
+      rest_seat j a ne = grind (arith, rest j)
 
       q' : Queues z.critical z.cores (seats s')
-      q' = leave z.critical z.cores fit.few_critical (seats s) (seats s') u l h e leaves rest_seat r.queues
+      q' = leave _ _ fit.few_critical _ _ u l h e (ap seat_of (grant_user z s u)) rest_seat r.queues
 
       new_timer : s.timing.hold 0 u (class_of z u) l Critical ≤ caps.critical
-      new_timer = rw (class_critical z u h)
-          (omega (arith, r.timed.lawful.capped 0 u Critical l, ap (λ c. of_class c Critical) r.timed.same_caps))
+      new_timer = grind (arith, class_critical z u h, r.timed.lawful.capped 0 u Critical l, r.timed.same_caps)
 
       from : (i l' b : ℕ) → i < z.critical → seats s' i ≡ seated l' b
           → (i ≢ u) × (((l ≡ l') × (seats s i ≡ seated l' (suc b))) ⊎ ((l ≢ l') × (seats s i ≡ seated l' b)))
-      from i l' b hi x = leave_from z.critical z.cores fit.few_critical (seats s) (seats s') u l h e leaves rest_seat r.queues i
+      from i l' b hi x = leave_from _ _ fit.few_critical _ _ u l h e (ap seat_of (grant_user z s u)) rest_seat r.queues i
           l' b hi x
-
-      same_op : (i : ℕ) → i < z.critical → i ≢ u → op_of ((grant z s u).requests i) ≡ op_of (s.requests i)
-      same_op i a ne = ap op_of (rest i a ne) ∙ raised_op l (s.requests i)
-
-      loaded_is : timer Critical (Some (new_copy z s u)) ≡ s.timing.hold 0 u (class_of z u) l Critical
-      loaded_is = new_left s u
 
       here : (a k m : ℕ) → OverIn z s l (suc a) k → k ≤ m → caps.critical ≤ m → OverIn z s' l a m
       here a k m x k≤m h≤m i j b hi f ba w =
           let g = from i l b hi f in
           elim g.1 [
-            | inl y ↦ elim (cases_eq j u) [
-              | inl same ↦ rw same (omega (arith, ap (timer Critical) (grant_new z s u), loaded_is, new_timer))
-              | inr ne ↦
-                  let c_is = grant_rest z s u j ne in
-                  let w' : in_way i (op_of (s.requests i)) j (ended (the_way z s u) (s.copies l) j) ≡ true =
-                  rw (same_op i hi g.0, c_is) at w in
-                  omega (
-                    arith,
-                    ap (timer Critical) c_is,
-                    k≤m,
-                    timer_kept i j k (op_of (s.requests i)) (the_way z s u) (s.copies l)
-                        (λ v. x i j (suc b) hi y.1 (omega arith) v) w',
-                  )
-            ]
+            | inl y ↦ grant_over s u i j k m (op_of (s.requests i)) (omega (arith, new_timer)) k≤m
+                (λ v. x i j (suc b) hi y.1 (omega arith) v) (grind (arith, rest i hi g.0))
             | inr y ↦ absurd (y.0 refl)
           ]
 
       there : (l' a k : ℕ) → l' ≢ l → OverIn z s l' a k → OverIn z s' l' a k
-      there l' a k d x i j b hi f ba w =
-          let g = from i l' b hi f in
-          elim g.1 [
-            | inl y ↦ absurd (d (sym y.0))
-            | inr y ↦
-                let c_is = grant_there z s u l' j d in
-                let w' : in_way i (op_of (s.requests i)) j (s.copies l' j) ≡ true = rw (same_op i hi g.0, c_is) at w in
-                omega (arith, ap (timer Critical) c_is, x i j b hi y.1 ba w')
-          ]
+      there l' a k d x i j b hi f ba w = grind (arith, from i l' b hi f, rest i hi, grant_there z s u l' j, x i j b hi)
 
       at : (i : ℕ) → i < z.critical
           → DueIn z caps 1 s'.copies s'.requests (next_owner z.critical s.owner) i ((grant z s u).requests i)
       at i a = elim (cases_eq i u) [
         | inl same ↦ rw (same, grant_user z s u) tt
         | inr ne ↦ rw (rest i a ne)
-            (due_grant C D B z.cores caps.critical (OverIn z s) (OverIn z s') (seats s) (seats s') s.owner l
+            (due_grant _ _ _ z.cores caps.critical _ _ _ _ s.owner l
             r.in_turn.owner_critical (fit.some_caps Critical) (omega arith) r.queues q' (ap (seats s) (sym is_owner) ∙ e)
             (λ j b d. rest_seat j b (rw (← is_owner) at d))
             here there
@@ -157,7 +100,8 @@ module _ (z : Sizes) (caps : Caps) (fit : Fit z caps) where
   pub ready_granted_other : (s : State) (u : ℕ) → z.critical ≤ u → queue_length z s Critical (the_line z s u) ≡ 0
       → is_waiting (s.requests s.owner) ≡ false
       → Ready z caps 0 s → Ready z caps 1 (end_slot z (grant z s u))
-  ready_granted_other s u h empty idle r = ready_after s u r (grant_capped s u r) q' (λ i h. at i h)
+  unfolding grant
+  ready_granted_other s u h empty idle r = ready_next z caps fit s' r.in_turn r.timed (grant_capped s u r) q' (λ i h. at i h)
     where
       s' : State
       s' = grant z s u
@@ -166,34 +110,24 @@ module _ (z : Sizes) (caps : Caps) (fit : Fit z caps) where
       l = the_line z s u
 
       rest : (j : ℕ) → j < z.critical → (grant z s u).requests j ≡ s.requests j
-      rest j a = grant_others z s u j (omega arith) ∙ rw (class_other z u h) (up_other z l j (s.requests j) a)
+      rest j a = grind (arith, grant_others z s u j, class_other z u h, nat_tests)
 
       q' : Queues z.critical z.cores (seats s')
-      q' = queues_same z.critical z.cores (seats s) (seats s') (λ j a. ap seat_of (rest j a)) r.queues
-
-      free_owner : seats s s.owner ≡ unseated
-      free_owner = free_unseated (s.requests s.owner) idle
+      q' = queues_same _ _ _ _ (λ j a. ap seat_of (rest j a)) r.queues
 
       none_here : (l' b j : ℕ) → j < z.critical → seats s j ≡ seated l' b → l' ≢ l
-      none_here l' b j a e same = omega (arith, r.queues.inside l b j a (e ∙ ap (λ x. seated x b) same), queue_seats z s l, empty)
-
-      keep : (l' j : ℕ) → j < z.critical → seats s j ≡ seated l' 0 → seats s' j ≡ seated l' 0
-      keep l' j a e = ap seat_of (rest j a) ∙ e
+      none_here l' b j a e same = grind (arith, r.queues.inside l b j, queue_seats z s l, empty)
 
       longer : (l' b n i : ℕ) → i < z.critical → seats s i ≡ seated l' b → OverIn z s l' b n → OverIn z s' l' b n
-      longer l' b n i a e x k j b' hk f le w =
-          let c_is = grant_there z s u l' j (none_here l' b i a e) in
-          let w' : in_way k (op_of (s.requests k)) j (s.copies l' j) ≡ true = rw (ap op_of (rest k hk), c_is) at w in
-          omega (arith, ap (timer Critical) c_is, x k j b' hk (sym (ap seat_of (rest k hk)) ∙ f) le w')
+      longer l' b n i a e x k j b' hk f le w = grind (arith, none_here l' b i a e, grant_there z s u l' j, rest k hk, x k j b' hk)
 
       not_yet : (l' b : ℕ) → seats s' s.owner ≡ seated l' 0 → OverIn z s' l' b (0 + 0) → ⊥
-      not_yet l' b e t =
-          let o : seats s' s.owner ≡ seats s s.owner = ap seat_of (rest s.owner r.in_turn.owner_critical) in
-          never (cc free_owner)
+      not_yet l' b e t = grind (arith, rest s.owner r.in_turn.owner_critical)
 
       at : (i : ℕ) → i < z.critical
           → DueIn z caps 1 s'.copies s'.requests (next_owner z.critical s.owner) i ((grant z s u).requests i)
-      at i a = rw (rest i a) (due_pass C D B (OverIn z s') (seats s') s.owner i not_yet (s.requests i)
+      at i a = rw (rest i a) (due_pass _ _ _ _ _ s.owner i not_yet (s.requests i)
           (λ w f e. let x : is_waiting (s.requests s.owner) ≡ true = rw e at w in never cc)
-          (due_map C D B 0 (OverIn z s) (OverIn z s') (seats s) (seats s') s.owner i keep (s.requests i)
+          (due_map _ _ _ 0 _ _ _ _ s.owner i
+          (λ l' j a e. grind (arith, rest j)) (s.requests i)
           (λ l' b n e x. longer l' b n i a e x) (r.due i a)))

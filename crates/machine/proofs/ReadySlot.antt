@@ -1,53 +1,43 @@
 -- A whole slot keeps a hub ready.
-use Rattle.std.proofs.Common.{◌≡◌, ℕ, ◌+◌, ◌<◌, ◌≤◌, Bool, true, false, Some, None, Option, sym, refl, ap, ◌∙◌, inl, inr, arith}
-use Rattle.std.proofs.lemmas.Bool.{eq-eqb, eqb-true, and_parts}
+use Rattle.std.proofs.Common.{◌≢◌, ◌≡◌, ℕ, ◌+◌, ◌<◌, ◌≤◌, Bool, true, false, Some, None, Option, refl, ap, ◌∙◌, inl, inr, arith}
+use Rattle.std.proofs.lemmas.Bool.{eqb-true}
 use Rattle.setup.specs.Bound.{Caps}
-use Rattle.setup.specs.declared.class.Class.TheVariants.{Critical, NonCritical}
+use Rattle.setup.specs.declared.class.Class.TheVariants.{Critical}
 use Rattle.machine.specs.declared.sizes.Sizes.{Sizes}
 use Rattle.machine.specs.Arbitration.{user_of, move_mark}
-use Rattle.machine.specs.Granting.{in_way, lets_pass, is_first, has_priority, is_granted}
-use Rattle.machine.specs.Order.{ordered_behind, queue_length, order}
-use Rattle.machine.specs.Parts.{is_waiting, line_of, op_of}
-use Rattle.machine.specs.Places.{all_below}
+use Rattle.machine.specs.Granting.{in_way, lets_pass, is_first, is_granted}
+use Rattle.machine.specs.Order.{queue_length, order}
+use Rattle.machine.specs.Parts.{is_waiting, op_of}
 use Rattle.machine.specs.Slot.{tried, try_user, used_by, slotting}
-use Rattle.machine.specs.State.{State, class_of}
+use Rattle.machine.specs.State.{State}
 use Rattle.machine.specs.Time.{tick}
-use Rattle.machine.proofs.Counting.{never, put_same, put_other, all_from}
+use Rattle.machine.proofs.Counting.{never, all_from}
 use Rattle.machine.proofs.Grants.{the_line}
 use Rattle.machine.proofs.Queues.{unseated, seated}
 use Rattle.machine.proofs.Ready.{timers, seats, OverIn, Fit, Ready, class_critical, class_other}
 use Rattle.machine.proofs.ReadyGrant.{ready_granted, ready_granted_other}
 use Rattle.machine.proofs.ReadySteps.{ready_tick, ready_mark, ready_order, ready_end}
-use Rattle.machine.proofs.Seats.{seat_of, free_unseated, in_order_seat, first_seat, is_first_from}
 use Rattle.machine.proofs.Users.{user_waits, user_is, user_none}
 
 module _ (z : Sizes) (caps : Caps) (fit : Fit z caps) where
   -- what the test for a grant says
   granted_first : (s : State) (u : ℕ) → is_granted z s u ≡ true → seats s u ≡ seated (the_line z s u) 0
   unfolding is_granted
-  granted_first s u t = first_seat (s.requests u) (and_parts (is_first (s.requests u)) _ t).0
+  granted_first s u t = grind (arith, eqb-true)
 
   granted_empty : (s : State) (u : ℕ) → z.critical ≤ u → is_granted z s u ≡ true → queue_length z s Critical (the_line z s u) ≡ 0
   unfolding is_granted
-  granted_empty s u h t =
-      let x = and_parts (all_below (λ k. lets_pass u (op_of (s.requests u)) (class_of z u) k (s.copies (the_line z s u) k)) z.cores)
-      (has_priority z s (class_of z u) (the_line z s u)) (and_parts (is_first (s.requests u)) _ t).1 in
-      let y : has_priority z s NonCritical (the_line z s u) ≡ true = rw (class_other z u h) at x.1 in
-      eqb-true (queue_length z s Critical (the_line z s u)) 0 y
+  granted_empty s u h t = grind (arith, class_other, eqb-true)
 
   granted_from : (s : State) (u : ℕ) → u < z.critical → is_first (s.requests u) ≡ true
       → ((j : ℕ) → in_way u (op_of (s.requests u)) j (s.copies (the_line z s u) j) ≡ true → timers s (the_line z s u) j ≡ 0)
       → is_granted z s u ≡ true
   unfolding is_granted
   granted_from s u h f t =
-      rw (
-        f,
-        all_from (λ k. lets_pass u (op_of (s.requests u)) (class_of z u) k (s.copies (the_line z s u) k)) z.cores (λ k _. at k),
-        class_critical z u h,
-      )
+      rw (f, class_critical z u h, all_from _ z.cores (λ k _. at k))
     where
-      at : (k : ℕ) → lets_pass u (op_of (s.requests u)) (class_of z u) k (s.copies (the_line z s u) k) ≡ true
-      at k = rw (class_critical z u h) (grind (arith, eq-eqb, t k))
+      at : (k : ℕ) → lets_pass u (op_of (s.requests u)) Critical k (s.copies (the_line z s u) k) ≡ true
+      at k = grind (arith, t k)
 
   ready_try : (s : State) (u : ℕ) → u ≡ s.owner → (seats s u ≡ unseated → ⊥) → Ready z caps 0 s → Ready z caps 1 (try_user z s u).state
   unfolding try_user
@@ -58,10 +48,9 @@ module _ (z : Sizes) (caps : Caps) (fit : Fit z caps) where
 
       not_yet : is_granted z s u ≡ false → (l a : ℕ) → seats s s.owner ≡ seated l 0 → OverIn z s l a (0 + 0) → ⊥
       not_yet no_grant l a e t =
-          let f = is_first_from (s.requests u) l (ap (seats s) is_owner ∙ e) in
-          let yes_grant = granted_from s u h f.0
-          (λ j w. rw f.1 (omega (arith, t u j 0 h (ap (seats s) is_owner ∙ e) (omega arith) (rw f.1 at w)))) in
-          never cc
+          let over : (j : ℕ) → seats s u ≡ seated l 0 → in_way u (op_of (s.requests u)) j (s.copies l j) ≡ true → timers s l j ≤ 0 =
+          λ j f w. t u j 0 h f (omega arith) w in
+          grind (arith, granted_from s u h, over)
 
       go : (t : Bool) → is_granted z s u ≡ t → Ready z caps 1 (tried z t s u).state
       go true e = ready_granted z caps fit s u is_owner (granted_first s u e) r
@@ -72,18 +61,13 @@ module _ (z : Sizes) (caps : Caps) (fit : Fit z caps) where
   unfolding try_user
   ready_try_other s u h idle r = go (is_granted z s u) refl
     where
-      free_owner : seats s s.owner ≡ unseated
-      free_owner = free_unseated (s.requests s.owner) idle
-
       go : (t : Bool) → is_granted z s u ≡ t → Ready z caps 1 (tried z t s u).state
       go true e = ready_granted_other z caps fit s u h (granted_empty s u h e) idle r
-      go false e = ready_end z caps fit s r (λ l a x _. never (cc free_owner)) (λ x _. never cc)
+      go false e = ready_end z caps fit s r (λ l a x _. grind arith) (λ x _. never cc)
 
   order_sits : (s : State) (u : ℕ) → is_waiting (s.requests u) ≡ true → seats (order z s u) u ≡ unseated → ⊥
   unfolding order
-  order_sits s u t e =
-      let n : ℕ = queue_length z s (class_of z u) (line_of (s.requests u)) in
-      in_order_seat n (s.requests u) t (sym (ap seat_of (put_same u (ordered_behind n (s.requests u)) s.requests)) ∙ e)
+  order_sits s u t e = grind arith
 
   -- what a slot leaves for a user
   ready_used : (s : State) (u : ℕ) → Ready z caps 0 s → user_of z s ≡ Some u
@@ -97,10 +81,8 @@ module _ (z : Sizes) (caps : Caps) (fit : Fit z caps) where
       elim (user_is z s u r.in_turn.mark_low r.in_turn.mark_high e) [
         | inl o ↦ ready_try s₂ u o (order_sits s₁ u asks) r₂
         | inr h ↦
-            let n : ℕ = queue_length z s₁ (class_of z u) (line_of (s.requests u)) in
-            let still : s₂.requests s.owner ≡ s.requests s.owner =
-            put_other u s.owner (ordered_behind n (s.requests u)) s.requests (omega (arith, h.0, r.in_turn.owner_critical)) in
-            ready_try_other s₂ u h.0 (ap is_waiting still ∙ h.1) r₂
+            let other : u ≢ s.owner = omega (arith, h.0, r.in_turn.owner_critical) in
+            ready_try_other s₂ u h.0 (grind (arith, h.1)) r₂
       ]
 
   pub ready_slot : (s : State) → Ready z caps 1 s → Ready z caps 1 (slotting z s).state
@@ -116,6 +98,5 @@ module _ (z : Sizes) (caps : Caps) (fit : Fit z caps) where
       go : (f : Option ℕ) → user_of z t ≡ f → Ready z caps 1 (used_by z f t).state
       go None e =
           let idle = user_none z t e in
-          let free_owner = free_unseated (t.requests t.owner) idle in
-          ready_end z caps fit t r₀ (λ l a x _. never cc) (λ x _. never cc)
+          ready_end z caps fit t r₀ (λ l a x _. grind arith) (λ x _. never cc)
       go (Some u) e = ready_used t u r₀ e

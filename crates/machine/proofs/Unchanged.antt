@@ -1,66 +1,26 @@
 -- Refusals and questions change nothing.
-use Rattle.std.proofs.Common.{◌≡◌, ℕ, Bool, true, false, Some, None, Option, refl, inl, inr}
+use Rattle.std.proofs.Common.{◌≡◌, inl, inr, arith}
 use Rattle.setup.specs.declared.refusal.Refusal.{Refusal}
 use Rattle.machine.specs.declared.call.Call.{Call}
-use Rattle.machine.specs.declared.call.Call.TheVariants.{Ask, Slot, Settle, WordOf, StateOf, BoundOf}
-use Rattle.machine.specs.declared.op.Op.{Op}
 use Rattle.machine.specs.declared.sizes.Sizes.{Sizes}
-use Rattle.machine.specs.Arbitration.{user_of, move_mark}
-use Rattle.machine.specs.Asking.{unless, ask_refusal, accepted, asking}
-use Rattle.machine.specs.Granting.{is_granted}
+use Rattle.machine.specs.Asking.{asking}
 use Rattle.machine.specs.History.{sizes}
 use Rattle.machine.specs.Machine.{step}
-use Rattle.machine.specs.Order.{order}
 use Rattle.machine.specs.Questions.{telling_word, telling_state}
 use Rattle.machine.specs.Replies.{refused}
 use Rattle.machine.specs.Settling.{settling}
-use Rattle.machine.specs.Slot.{tried, try_user, used_by, slotting}
+use Rattle.machine.specs.Slot.{try_user, slotting}
 use Rattle.machine.specs.State.{State}
-use Rattle.machine.specs.Time.{tick}
-use Rattle.machine.specs.Unchanged.{Question, for_word, for_state, for_bound, RefusalsAndQuestionsChangeNothing}
-use Rattle.machine.proofs.Asks.{accepted_all, unless_same}
-use Rattle.machine.proofs.Counting.{never}
+use Rattle.machine.specs.Unchanged.{Question, RefusalsAndQuestionsChangeNothing}
 
 module _ (z : Sizes) (s : State) where
-  ask_unchanged : (i l : ℕ) (o : Op) (e : Refusal) → (asking z i l o s).reply ≡ refused e → (asking z i l o s).state ≡ s
-  unfolding asking
-  ask_unchanged i l o e r = go (ask_refusal z i l s) r
-    where
-      go : (v : Option Refusal) → (unless v (accepted i l o (s.copies l i) s) s).reply ≡ refused e
-          → (unless v (accepted i l o (s.copies l i) s) s).state ≡ s
-      go None r =
-          accepted_all i l s (λ o x out. out.reply ≡ refused e → out.state ≡ s)
-          (λ o r. absurd (never cc)) (λ copy r. refl) (λ w copy r. absurd (never cc)) (λ w copy _ r. absurd (never cc))
-          o (s.copies l i) r
-      go (Some refusal) r = refl
-
-  -- a slot is never refused
-  slot_accepted : (e : Refusal) → (slotting z s).reply ≡ refused e → ⊥
-  unfolding slotting try_user
-  slot_accepted e r = go (user_of z (tick s)) r
-    where
-      at : (t : Bool) (s : State) (u : ℕ) → (tried z t s u).reply ≡ refused e → ⊥
-      at true s u r = never cc
-      at false s u r = never cc
-
-      go : (f : Option ℕ) → (used_by z f (tick s)).reply ≡ refused e → ⊥
-      go None r = never cc
-      go (Some u) r = at (is_granted z (order z (move_mark z (tick s) u) u) u) (order z (move_mark z (tick s) u) u) u r
-
   refused_unchanged : (c : Call) (e : Refusal) → (step z c s).reply ≡ refused e → (step z c s).state ≡ s
-  unfolding settling telling_word telling_state
-  refused_unchanged (Ask i l o) e r = ask_unchanged i l o e r
-  refused_unchanged Slot e r = absurd (slot_accepted e r)
-  refused_unchanged Settle e r = absurd (never cc)
-  refused_unchanged (WordOf l) e r = unless_same _ _ s
-  refused_unchanged (StateOf i l) e r = unless_same _ _ s
-  refused_unchanged BoundOf e r = refl
+  unfolding asking slotting try_user settling telling_word telling_state
+  refused_unchanged c e r = grind arith
 
   question_unchanged : (c : Call) → Question c → (step z c s).state ≡ s
   unfolding telling_word telling_state
-  question_unchanged c for_word = unless_same _ _ s
-  question_unchanged c for_state = unless_same _ _ s
-  question_unchanged c for_bound = refl
+  question_unchanged c q = grind arith
 
 pub refusals_and_questions_change_nothing : RefusalsAndQuestionsChangeNothing
 refusals_and_questions_change_nothing b h s f c d =

@@ -1,52 +1,29 @@
 -- Waits are counted in slots.
-use Rattle.std.proofs.Common.{◌≡◌, ℕ, min, Bool, true, false, ◌∷◌, Some, None, Option, sym, ap, ◌∙◌, subst, inl, inr, arith}
+use Rattle.std.proofs.Common.{◌≡◌, ℕ, ◌∷◌, subst, inl, inr, arith}
 use Rattle.machine.specs.declared.call.Call.TheVariants.{Slot}
 use Rattle.machine.specs.declared.op.Role.{Role}
-use Rattle.machine.specs.declared.request.Request.{Request}
 use Rattle.machine.specs.declared.sizes.Sizes.{Sizes}
-use Rattle.machine.specs.Arbitration.{user_of, move_mark}
-use Rattle.machine.specs.Granting.{is_granted}
-use Rattle.machine.specs.History.{sizes, event, From, slots}
-use Rattle.machine.specs.Order.{ordered_behind, queue_length, order}
-use Rattle.machine.specs.Parts.{line_of, wait_of}
+use Rattle.machine.specs.Arbitration.{move_mark}
+use Rattle.machine.specs.History.{sizes, event, From}
+use Rattle.machine.specs.Order.{order}
+use Rattle.machine.specs.Parts.{wait_of}
 use Rattle.machine.specs.Replies.{done}
-use Rattle.machine.specs.Slot.{tried, try_user, used_by, slotting}
-use Rattle.machine.specs.State.{State, class_of}
-use Rattle.machine.specs.Time.{tick_wait, tick_request, tick}
+use Rattle.machine.specs.Slot.{try_user, slotting}
+use Rattle.machine.specs.State.{State}
+use Rattle.machine.specs.Time.{tick_request, tick}
 use Rattle.machine.specs.WaitCounts.{WaitsAreCountedInSlots}
-use Rattle.machine.proofs.Counting.{never, put_same}
 use Rattle.machine.proofs.Histories.{earlier, cut}
-use Rattle.machine.proofs.StillWaiting.{Still, still_from}
-
-ordered_wait : (n : ℕ) (r : Request) → wait_of (ordered_behind n r) ≡ wait_of r
-ordered_wait n r = grind arith
+use Rattle.machine.proofs.StillWaiting.{still_from}
 
 order_wait : (z : Sizes) (s : State) (u : ℕ) → wait_of ((order z s u).requests u) ≡ wait_of (s.requests u)
 unfolding order
-order_wait z s u =
-    let n : ℕ = queue_length z s (class_of z u) (line_of (s.requests u)) in
-    ap wait_of (put_same u (ordered_behind n (s.requests u)) s.requests) ∙ ordered_wait n (s.requests u)
+order_wait z s u = grind arith
 
 -- a done slot reports the wait of its user's request, once time has passed
 done_wait : (z : Sizes) (s : State) (owner u l w n : ℕ) (k : Role) → done owner u l k w n ≡ (slotting z s).reply
     → n ≡ wait_of (tick_request (s.requests u))
 unfolding slotting try_user tick move_mark
-done_wait z s owner u l w n k e = go (user_of z (tick s)) e
-  where
-    at : (t : Bool) (v : ℕ) → done owner u l k w n ≡ (tried z t (order z (move_mark z (tick s) v) v) v).reply
-        → n ≡ wait_of (tick_request (s.requests u))
-    at true v e =
-        let same : u ≡ v = cc in
-        let n_is : n ≡ wait_of ((order z (move_mark z (tick s) v) v).requests v) = cc in
-        n_is ∙ (order_wait z (move_mark z (tick s) v) v ∙ ap (λ i. wait_of (tick_request (s.requests i))) (sym same))
-    at false v e = absurd (never cc)
-
-    go : (f : Option ℕ) → done owner u l k w n ≡ (used_by z f (tick s)).reply → n ≡ wait_of (tick_request (s.requests u))
-    go None e = absurd (never cc)
-    go (Some v) e = at (is_granted z (order z (move_mark z (tick s) v) v) v) v e
-
-tick_counts : (r : Request) (w : ℕ) → Still r w → wait_of (tick_request r) ≡ tick_wait w
-tick_counts r w x = grind arith
+done_wait z s owner u l w n k e = grind (arith, order_wait)
 
 pub waits_are_counted_in_slots : WaitsAreCountedInSlots
 waits_are_counted_in_slots b h s f later before_it since owner core line asked_line word wait role op is un =
@@ -55,8 +32,5 @@ waits_are_counted_in_slots b h s f later before_it since owner core line asked_l
     let asked = subst (λ k. From b k u.state) un.asked u.from in
     elim (still_from b core asked_line op since un.earlier u.state asked) [
       | inl served ↦ absurd (un.unserved served)
-      | inr x ↦
-          let told = done_wait (sizes b) u.state owner core line word wait role u.replied in
-          let counted = tick_counts (u.state.requests core) (min (slots since) 4294967295) x in
-          told ∙ (counted ∙ omega arith)
+      | inr x ↦ grind (arith, done_wait (sizes b) u.state owner core line word wait role u.replied)
     ]
