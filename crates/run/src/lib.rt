@@ -6,6 +6,7 @@ ghost use Rattle.std.specs.Prelude.{◌≡◌, ◌≤◌, true, length, take, is
 ghost use Rattle.std.specs.Io.KnownBytes.{Appends};
 ghost use Rattle.listing.specs.Lines.{answer, after};
 ghost use Rattle.run.specs.FirstLine.{hub_line, hub_of, first_line, listing_of};
+ghost use Rattle.setup.specs.Limits.{KeepsLimits};
 ghost use Rattle.setup.specs.Refusals.{numbered};
 
 use listing::line::{HubLine, write_line};
@@ -56,6 +57,7 @@ fn hub_of<M: Memory>(file: &[u8], memory: &M) -> Result<HubLine, Refusal>
 pub fn describe<M: Memory, P: Policy>(setup: &SetUp, memory: &M, policy: &mut P) -> HubLine
     ensures value { result ≡ hub_line setup.now (length (M.Memory.words memory.now)) M.Memory.kind P.Policy.kind (P.Policy.timing policy.old).caps }
     ensures policy { P.Policy.timing policy.new ≡ P.Policy.timing policy.old }
+    ensures checked { KeepsLimits setup.now }
 {
     let lines = (setup.lines() as usize).min(memory.count());
     let bound = setup.bound(policy.caps());

@@ -1,5 +1,6 @@
 // The bound of a critical wait.
 ghost use Rattle.setup.specs.Bound.{bound};
+ghost use Rattle.setup.specs.Limits.{KeepsLimits};
 ghost use Rattle.std.specs.Prelude.{◌≡◌};
 
 use crate::checked::SetUp;
@@ -14,7 +15,8 @@ impl SetUp {
     /// The slots after which an accepted request of a critical core is answered at the latest, under
     /// these caps.
     pub fn bound(&self, caps: Caps) -> Slots
-        ensures { result ≡ bound self.now.critical caps }
+        ensures value { result ≡ bound self.now.critical caps }
+        ensures checked { KeepsLimits self.now }
     {
         let others = self.critical() - 1;
         let hc = u32::from(caps.critical);

@@ -1,5 +1,6 @@
 // Counts of slots.
 ghost use Rattle.setup.specs.Bound.{cycles};
+ghost use Rattle.setup.specs.Limits.{KeepsLimits};
 ghost use Rattle.std.specs.Prelude.{◌≡◌};
 
 use crate::checked::SetUp;
@@ -33,7 +34,8 @@ impl Slots {
     /// The cycles of so many slots: the one way from slots to cycles. Both factors are widened first,
     /// so that nothing is lost for any checked set-up.
     pub fn cycles(self, setup: &SetUp) -> Cycles
-        ensures { result ≡ cycles setup.now.width self }
+        ensures value { result ≡ cycles setup.now.width self }
+        ensures checked { KeepsLimits setup.now }
     {
         Cycles {
             count: u64::from(self.count) * u64::from(setup.width()),
