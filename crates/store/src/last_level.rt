@@ -1,13 +1,12 @@
 // Sixteen places over a memory below; a line's number modulo 16 is that of its place. A place is taken
 // by a store to a line, and the word that was there goes below.
-ghost use Rattle.store.specs.Overlay.{Placed, AllBelow};
+ghost use Rattle.store.specs.Overlay.{Placed, AllBelow, held, words_sent};
 ghost use Rattle.std.specs.Prelude.{◌≡◌, length};
 
 use crate::place::{HeldWord, Place};
 use memory::Memory;
 use setup::kind::Kind;
 use setup::refusal::Refusal;
-use std::mem;
 
 // The prover does not know the value of an associated constant of a generic impl, so that it has
 // this name besides, which the impl's methods read.
@@ -23,10 +22,21 @@ pub struct LastLevelStore<M: Memory> {
     ghost inside: { AllBelow (length (M.Memory.words below)) places },
 }
 
+/// Stores a place's word below, and answers how many words, 1 or 0, the memory below took.
+fn send_below<M: Memory>(below: &mut M, place: Place) -> u32
+    ensures value { result ≡ held (length (M.Memory.words below.old)) place }
+    ensures below { M.Memory.words below.new ≡ words_sent (M.Memory.words below.old) place }
+{
+    match place {
+        Some(held) => u32::from(below.store(held.line, held.word).is_ok()),
+        None => 0,
+    }
+}
+
 impl<M: Memory> LastLevelStore<M> {
     ghost use Rattle.std.specs.Prelude.{◌≡◌, length, replicate, count_by, is_some, None, slice_index_or};
     ghost use Rattle.store.specs.Meaning.{words_of, words_below};
-    ghost use Rattle.store.specs.Overlay.{place_of, held_word, displaced, held, held_in, words_sent};
+    ghost use Rattle.store.specs.Overlay.{place_of, held_word, displaced, held_in};
 
     /// A store with all places free, which means what the memory below means.
     #[tactic(auto, using(crate::proofs::Laid::overlaid_free))]
@@ -52,24 +62,11 @@ impl<M: Memory> LastLevelStore<M> {
         ensures below { words_below M.Memory.words self.new ≡ words_of M.Memory.words self.old }
         ensures places { self.new.places ≡ replicate 16 None }
     {
-        let places = mem::replace(&mut self.places, [None; 16]);
         let mut stored = 0u32;
-        for place in places {
-            stored += self.send_below(place);
+        for place in self.places.iter_mut() {
+            stored += send_below(&mut self.below, place.take());
         }
         stored
-    }
-
-    /// Stores a place's word below, and answers how many words, 1 or 0, the memory below took.
-    fn send_below(&mut self, place: Place) -> u32
-        ensures value { result ≡ held (length (words_below M.Memory.words self.old)) place }
-        ensures below { words_below M.Memory.words self.new ≡ words_sent (words_below M.Memory.words self.old) place }
-        ensures places { self.new.places ≡ self.old.places }
-    {
-        match place {
-            Some(held) => u32::from(self.below.store(held.line, held.word).is_ok()),
-            None => 0,
-        }
     }
 
     fn count_below(&self) -> usize
