@@ -46,6 +46,7 @@ const FIRST_UNNAMED: u8 = 32;
 
 /// The head of a run file and the bytes after it, or the refusal of a file that cannot be read. A head
 /// that was written field by field reads as what was written.
+#[inline]
 pub fn read_head(file: &[u8]) -> Result<(Head, &[u8]), Refusal>
     ensures value { outcome result ≡ reading file.now }
     ensures written { (f : Fields) (rest : List ℕ) → file.now ≡ file_of f rest → length file.now ≤ 65536 → outcome result ≡ Ok (told f, rest) }
